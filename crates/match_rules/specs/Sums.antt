@@ -1,5 +1,5 @@
 -- Sums over the places below a count.
-use Rattle.std.specs.Prelude.{ℕ, ◌+◌, ℤ, pos, ◌+ℤ◌, Bool, if◌then◌else◌}
+use Rattle.std.specs.Prelude.{ℕ, zero, suc, ◌+◌, ℤ, pos, ◌+ℤ◌, Bool, if◌then◌else◌}
 
 -- f 0 + .. + f (n - 1), in whole numbers with a sign
 abbrev pub sum_below : ℕ → (ℕ → ℤ) → ℤ
