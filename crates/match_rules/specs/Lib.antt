@@ -1,2 +1,12 @@
+pub mod Answers
+pub mod Assignments
+pub mod Breaks
+pub mod Evidence
+pub mod First
+pub mod Groups
 pub mod Id
+pub mod Pieces
+pub mod Rules
+pub mod RulesFaults
 pub mod Sums
+pub mod Thresholds

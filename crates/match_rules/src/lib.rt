@@ -1,6 +1,16 @@
 // Rules, lotteries and answers of an assignment, and the first rule that a lottery breaks.
 #![tactic(auto)]
 
+mod answer;
+mod breaks;
 mod ids;
+mod lists;
+mod lottery;
+mod rules;
 
+pub use answer::{Answer, Blocked, Cut, Level, Mode, Prices, Side, Sieve, Winning};
+pub use breaks::Break;
 pub use ids::{IdFault, Institution, PaperId, ReviewerId};
+pub use lists::{Places, PriceList, Shares};
+pub use lottery::{Lottery, Piece};
+pub use rules::{MOST_TICKETS, RulePair, RulePaper, RuleReviewer, Rules, RulesFault};

@@ -1,0 +1,119 @@
+// Answers to rules: a lottery with its evidence, or a cut that forbids all.
+
+use crate::lists::{Places, PriceList, Shares};
+use crate::lottery::Lottery;
+
+/// What was asked for.
+#[derive(Debug, Clone, Copy, PartialEq, Eq)]
+pub enum Mode {
+    /// A lottery of greatest expected score.
+    Whole,
+    /// The same, among the pairs that pass the greatest feasible threshold.
+    Fair,
+}
+
+/// On which side of the marked nodes a cut counts.
+#[derive(Debug, Clone, Copy, PartialEq, Eq)]
+pub enum Side {
+    /// What has to enter the marked nodes is more than may leave them.
+    Into,
+    /// What has to leave the marked nodes is more than may enter them.
+    OutOf,
+}
+
+/// Which candidate pairs are kept; every sieve keeps the locked pairs.
+#[derive(Debug, Clone, Copy, PartialEq, Eq)]
+pub enum Sieve {
+    /// All pairs.
+    All,
+    /// The pairs with at least this score.
+    AtLeast {
+        /// In 10^-6.
+        score: i64,
+    },
+    /// The pairs with a greater score.
+    Above {
+        /// In 10^-6.
+        score: i64,
+    },
+}
+
+/// Marked papers, groups and reviewers: evidence that nothing fits, where
+/// more has to pass than may pass.
+#[derive(Drop)]
+pub struct Cut {
+    /// Which way is counted.
+    pub side: Side,
+    /// The places of the marked papers, strictly ascending.
+    pub papers: Places,
+    /// The places of the marked groups, strictly ascending.
+    pub groups: Places,
+    /// The places of the marked reviewers, strictly ascending.
+    pub reviewers: Places,
+}
+
+/// The greatest feasible score threshold of the fair mode.
+#[derive(Drop)]
+pub enum Level {
+    /// The mode is whole: no threshold was asked for.
+    Unasked,
+    /// A lottery fits with the locked pairs alone.
+    Free,
+    /// The greatest score at which something fits.
+    At {
+        /// In 10^-6, of magnitude at most 8,000,000,000.
+        score: i64,
+        /// Shows that nothing fits with greater scores alone.
+        cut: Cut,
+    },
+}
+
+/// A price for each paper, group and reviewer, in 10^-6 of a score.
+#[derive(Drop)]
+pub struct Prices {
+    /// By the places of the papers.
+    pub papers: PriceList,
+    /// By the places of the groups.
+    pub groups: PriceList,
+    /// By the places of the reviewers.
+    pub reviewers: PriceList,
+}
+
+/// A lottery with the evidence that it is best.
+#[derive(Drop)]
+pub struct Winning {
+    /// What was asked for.
+    pub mode: Mode,
+    /// The threshold, in the fair mode.
+    pub level: Level,
+    /// The total over all tickets, in 10^-6 of a score.
+    pub total: i128,
+    /// The prices whose bound is the total.
+    pub prices: Prices,
+    /// The tickets of each pair.
+    pub shares: Shares,
+    /// The whole assignments.
+    pub lottery: Lottery,
+}
+
+/// A cut that shows that no lottery fits.
+#[derive(Drop)]
+pub struct Blocked {
+    /// What was asked for.
+    pub mode: Mode,
+    /// The cut.
+    pub cut: Cut,
+    /// What has to pass the cut, in tickets.
+    pub need: u64,
+    /// What may pass the cut, in tickets.
+    pub room: u64,
+}
+
+/// The answer to rules.
+#[derive(Drop)]
+pub enum Answer {
+    /// A best lottery.
+    Lottery(Winning),
+    /// No lottery fits.
+    Infeasible(Blocked),
+}

@@ -1,0 +1,46 @@
+// Lotteries: weighted whole assignments.
+
+ghost use Rattle.std.specs.Prelude.{◌≡◌, length};
+ghost use Rattle.match_rules.specs.Pieces.{ArePieces};
+
+use crate::lists::Places;
+use std::marker::Model;
+
+/// A whole assignment with the number of tickets that draw it.
+#[derive(Drop)]
+pub struct Piece {
+    /// The number of tickets, 1 to the greatest number of tickets.
+    pub weight: u32,
+    /// The places of the assigned pairs, strictly ascending.
+    pub pairs: Places,
+}
+
+/// A list of pieces whose lists of places strictly ascend in lexicographic
+/// order, at most as many as the greatest number of tickets.
+#[derive(Drop)]
+pub struct Lottery {
+    pieces: Vec<Piece>,
+}
+
+impl Model for Lottery {
+    ghost use Rattle.std.specs.Prelude.{List};
+    ghost use Rattle.match_rules.specs.declared.lottery.Piece.{Piece};
+    ghost use Rattle.match_rules.specs.Pieces.{ArePieces};
+
+    ghost Value = { List Piece };
+
+    ghost view = { λ l. l.pieces.items };
+
+    ghost invariant = { λ l. ArePieces l.pieces.items };
+}
+
+impl Lottery {
+    /// The pieces, ascending by their lists of places.
+    pub fn pieces(&self) -> &[Piece]
+        ensures value { result.now ≡ self.now }
+        ensures len { length result.now ≡ length self.now }
+        ensures kept { ArePieces self.now }
+    {
+        self.pieces.as_slice()
+    }
+}

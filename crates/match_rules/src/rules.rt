@@ -1,0 +1,141 @@
+// The rules of one edition: papers, reviewers and candidate pairs.
+
+ghost use Rattle.std.specs.Prelude.{◌≡◌, length};
+ghost use Rattle.match_rules.specs.Rules.{RulesValue, AreRules, locked_places};
+
+use crate::ids::{Institution, PaperId, ReviewerId};
+use std::marker::Model;
+
+/// The greatest number of tickets that a lottery is split over.
+pub const MOST_TICKETS: u32 = 10_000;
+
+/// A paper with the number of reviewers that it needs in each assignment.
+#[derive(Drop)]
+pub struct RulePaper {
+    /// Its id.
+    pub id: PaperId,
+    /// Reviewers in each assignment, 0 to 100.
+    pub demand: u32,
+}
+
+/// A reviewer with the numbers of papers that they may have in an assignment.
+#[derive(Drop)]
+pub struct RuleReviewer {
+    /// The reviewer's id.
+    pub id: ReviewerId,
+    /// Where the reviewer works, if that is known.
+    pub institution: Option<Institution>,
+    /// The least number of papers in each assignment, 0 to 1,500.
+    pub least: u32,
+    /// The greatest number of papers in each assignment, up to 1,500.
+    pub greatest: u32,
+}
+
+/// A candidate pair of a paper and a reviewer.
+#[derive(Clone, Copy)]
+pub struct RulePair {
+    /// The place of the paper.
+    pub paper: u32,
+    /// The place of the reviewer.
+    pub reviewer: u32,
+    /// The score, in 10^-6, of magnitude at most 8,000,000,000.
+    pub score: i64,
+    /// The least number of tickets: 0, or all of them for a locked pair.
+    pub floor: u32,
+    /// The greatest number of tickets.
+    pub cap: u32,
+}
+
+/// The rules of one edition, which keep all conditions of a lottery: papers,
+/// reviewers and pairs strictly ascend, and every number is within its limit.
+#[derive(Drop)]
+pub struct Rules {
+    tickets: u32,
+    limit: u32,
+    papers: Vec<RulePaper>,
+    reviewers: Vec<RuleReviewer>,
+    pairs: Vec<RulePair>,
+    locked: Vec<u32>,
+}
+
+impl Model for Rules {
+    ghost use Rattle.std.specs.Prelude.{◌≡◌};
+    ghost use Rattle.match_rules.specs.Rules.{RulesValue, AreRules, locked_places};
+
+    ghost Value = { RulesValue };
+
+    ghost view = { λ r. record { tickets = r.tickets; limit = r.limit; papers = r.papers.items; reviewers = r.reviewers.items; pairs = r.pairs.items } };
+
+    ghost invariant = { λ r. AreRules (record { tickets = r.tickets; limit = r.limit; papers = r.papers.items; reviewers = r.reviewers.items; pairs = r.pairs.items })
+        × (r.locked.items ≡ locked_places (record { tickets = r.tickets; limit = r.limit; papers = r.papers.items; reviewers = r.reviewers.items; pairs = r.pairs.items })) };
+}
+
+/// Why rules were refused: the first part, in the order limit, papers,
+/// reviewers, pairs, that breaks a condition, and its first place that does.
+#[derive(Debug, Clone, Copy, PartialEq, Eq)]
+pub enum RulesFault {
+    /// The limit isn't 1 to 1,500.
+    Limit,
+    /// A paper.
+    Papers { place: u32 },
+    /// A reviewer.
+    Reviewers { place: u32 },
+    /// A pair.
+    Pairs { place: u32 },
+    /// Memory was wanting.
+    Memory,
+}
+
+impl Rules {
+    /// The number of tickets over which a lottery is split.
+    pub fn tickets(&self) -> u32
+        ensures value { result ≡ self.now.tickets }
+        ensures kept { AreRules self.now }
+    {
+        self.tickets
+    }
+
+    /// The greatest number of reviewers of one institution that one paper may
+    /// have in an assignment, 1 to 1,500.
+    pub fn limit(&self) -> u32
+        ensures value { result ≡ self.now.limit }
+        ensures kept { AreRules self.now }
+    {
+        self.limit
+    }
+
+    /// The papers, ascending by the bytes of their ids.
+    pub fn papers(&self) -> &[RulePaper]
+        ensures value { result.now ≡ self.now.papers }
+        ensures len { length result.now ≡ length self.now.papers }
+        ensures kept { AreRules self.now }
+    {
+        self.papers.as_slice()
+    }
+
+    /// The reviewers, ascending by the bytes of their ids.
+    pub fn reviewers(&self) -> &[RuleReviewer]
+        ensures value { result.now ≡ self.now.reviewers }
+        ensures len { length result.now ≡ length self.now.reviewers }
+        ensures kept { AreRules self.now }
+    {
+        self.reviewers.as_slice()
+    }
+
+    /// The candidate pairs, ascending by the place of the paper and then that
+    /// of the reviewer.
+    pub fn pairs(&self) -> &[RulePair]
+        ensures value { result.now ≡ self.now.pairs }
+        ensures len { length result.now ≡ length self.now.pairs }
+        ensures kept { AreRules self.now }
+    {
+        self.pairs.as_slice()
+    }
+
+    /// The places of the locked pairs, ascending.
+    pub(crate) fn locked(&self) -> &[u32]
+        ensures value { result.now ≡ locked_places self.now }
+    {
+        self.locked.as_slice()
+    }
+}
