@@ -2,5 +2,7 @@
 #![tactic(auto)]
 
 mod traits;
+mod writing;
 
 pub use traits::{Io, Sink, Source};
+pub use writing::write_all;
