@@ -11,5 +11,5 @@ pub loop-at-preserved : goal.loop-at-preserved
 loop-at-preserved g c = record {
   front = front_more _ _ _ _ _ _ c.loop-at.invariant.front c.in_ok-at.ensures.taken;
   within = grind (arith, common_steps);
-  later = search rules
+  later = search rules;
 }
