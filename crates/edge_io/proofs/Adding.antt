@@ -1,5 +1,5 @@
 -- How what was taken in one step and in the next adds up.
-use Rattle.std.proofs.Common.{◌≡◌, ℕ, ◌+◌, ◌-◌, ◌≤◌, List, [], ◌++◌, length, take, drop, sym, ◌∙◌, ap, append_assoc, refl, arith}
+use Rattle.std.proofs.Common.{◌≡◌, ℕ, ◌+◌, ◌-◌, List, [], ◌++◌, length, take, drop, sym, ◌∙◌, ap, append_assoc}
 use Rattle.std.specs.Prelude.{Option, IsSome, Result, Ok, Err, IsErr}
 use Rattle.std.proofs.lemmas.List.{take_rest, append-nil, take-append-drop}
 use Rattle.std.proofs.Math.Seq.{take-add}

@@ -1,4 +1,4 @@
-use Rattle.std.proofs.Common.{ℕ, ◌≡◌, ◌+◌, ◌≤◌, ◌^◌, List, [], ◌∷◌, get_or, Fits, w64, false, ◌||◌, sym, arith, nat_eq, zero, suc}
+use Rattle.std.proofs.Common.{ℕ, ◌≡◌, ◌+◌, ◌≤◌, ◌^◌, List, [], ◌∷◌, get_or, Fits, w64, false, sym, arith, nat_eq, suc}
 use Rattle.std.proofs.lemmas.Grind.{common_steps}
 use Rattle.edge_io.specs.Memory.{is_listed}
 use Rattle.edge_io.proofs.calls.is_next_listed.Goals as goal

@@ -1,6 +1,6 @@
 use Rattle.std.proofs.Common.{rules, arith}
 use Rattle.std.proofs.lemmas.Grind.{common_steps}
-use Rattle.edge_io.proofs.Adding.{front_none, front_more, front_fails}
+use Rattle.edge_io.proofs.Adding.{front_more, front_fails}
 use Rattle.edge_io.proofs.writing.write_all.Goals as goal
 
 pub returns-in_err-at-clause-taken : goal.returns-in_err-at-clause-taken
