@@ -3,13 +3,15 @@ ghost use Rattle.std.specs.Prelude.{◌≡◌, ◌<◌, ◌≤◌, ℕ, List, le
 ghost use Rattle.edge_io.specs.Counts.{HasCause};
 ghost use Rattle.edge_io.specs.Told.{TakesLeft, Adds};
 
-/// The fault of a read or a write.
+/// The fault of a read or a write. It comes only where the object's count of faults rose in the call, or stands at
+/// 18,446,744,073,709,551,615, which a counter of 64 bits can't leave.
 #[derive(Clone, Copy, Debug, PartialEq, Eq)]
 pub enum Io {
     Failed,
 }
 
-/// Where bytes come from.
+/// Where bytes come from. It may stop telling what it gave or has left, but what it doesn't tell at one moment it
+/// doesn't tell later: each clause on the bytes stands where they are told after the call.
 pub trait Source {
     /// How often it has failed. It may rise in any call, and never falls.
     ghost faults: { Self → ℕ };
@@ -20,7 +22,8 @@ pub trait Source {
     /// The bytes still to come, where it tells them.
     ghost left: { Self → Option (List ℕ) };
 
-    /// Puts the next bytes into the front of `room`, and answers how many: 0 exactly at the end. Takes no memory.
+    /// Puts the next bytes into the front of `room`, and answers how many: 0 exactly at the end.
+    /// Behind them `room` may hold anything. After `Failed` nothing was taken from what is left. Takes no memory.
     fn read(&mut self, room: &mut [u8]) -> Result<usize, Io>
         requires { 0 < length room.old }
         ensures fits { IfOk result (λ n. n ≤ length room.new) }
@@ -29,7 +32,7 @@ pub trait Source {
         ensures cause { HasCause (faults self.old) (faults self.new) result };
 }
 
-/// Where bytes go.
+/// Where bytes go. It may stop telling what it took, but what it doesn't tell at one moment it doesn't tell later.
 pub trait Sink {
     /// How often it has failed. It may rise in any call, and never falls.
     ghost faults: { Self → ℕ };
