@@ -12,6 +12,8 @@ mod matching;
 mod parts;
 mod pieces;
 mod rules;
+#[cfg(test)]
+mod rules_tests;
 
 pub use answer::{Answer, Blocked, Cut, Level, Mode, Prices, Side, Sieve, Winning};
 pub use breaks::Break;
