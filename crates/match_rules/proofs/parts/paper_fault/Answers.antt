@@ -1,6 +1,4 @@
-use Rattle.std.proofs.Common.{◌+◌, ◌<◌, length, arith}
-use Rattle.match_rules.specs.Rules.{ArePapers}
-use Rattle.match_rules.specs.NextRows.{IsNextPaper}
+use Rattle.std.proofs.Common.{arith}
 use Rattle.match_rules.proofs.Fronts.{all_rows_of_papers, first_paper}
 use Rattle.match_rules.proofs.parts.paper_fault.Goals as goal
 

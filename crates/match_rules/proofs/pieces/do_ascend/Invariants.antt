@@ -1,4 +1,4 @@
-use Rattle.std.proofs.Common.{ℕ, ◌+◌, ◌<◌, ◌≤◌, slice_index}
+use Rattle.std.proofs.Common.{ℕ, ◌+◌, ◌<◌, slice_index}
 use Rattle.match_rules.proofs.pieces.do_ascend.Given as goal
 
 abbrev pub invariant-loop-i : goal.invariant-loop-i
