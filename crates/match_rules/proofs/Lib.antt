@@ -2,3 +2,10 @@ pub mod IdLaws
 pub mod Locked
 pub mod Fronts
 pub mod NoGroups
+pub mod Firsts
+pub mod Found
+pub mod Counts
+pub mod Counted
+pub mod Holding
+pub mod Locks
+pub mod Soundness

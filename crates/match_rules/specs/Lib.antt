@@ -10,5 +10,6 @@ pub mod NextRows
 pub mod Pieces
 pub mod Rules
 pub mod RulesFaults
+pub mod Sound
 pub mod Sums
 pub mod Thresholds

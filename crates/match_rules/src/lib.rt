@@ -3,6 +3,7 @@
 
 mod answer;
 mod breaks;
+mod check;
 mod examples;
 mod ids;
 mod lists;
@@ -17,6 +18,7 @@ mod rules_tests;
 
 pub use answer::{Answer, Blocked, Cut, Level, Mode, Prices, Side, Sieve, Winning};
 pub use breaks::Break;
+pub use check::{Scratch, first_break};
 pub use examples::{
     worked_breaks, worked_cuts, worked_groups, worked_ids, worked_sieves, worked_totals,
 };

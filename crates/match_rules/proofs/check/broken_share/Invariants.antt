@@ -1,0 +1,7 @@
+use Rattle.std.proofs.Common.{◌≡◌, None}
+use Rattle.match_rules.specs.First.{first_below}
+use Rattle.match_rules.specs.Sound.{share_counted}
+use Rattle.match_rules.proofs.check.broken_share.Given as goal
+
+abbrev pub invariant-loop-e : goal.invariant-loop-e
+invariant-loop-e l = first_below l.e (share_counted l.shares l.counts) ≡ None

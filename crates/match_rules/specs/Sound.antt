@@ -1,0 +1,45 @@
+-- Lotteries that break no clause of the check, and the sizes of the counters that the check needs.
+use Rattle.std.specs.Prelude.{◌≡◌, ℕ, ◌<◌, ◌==◌, nat_le, List, length, Option, All, slice_index}
+use Rattle.match_rules.specs.declared.answer.Sieve.TheVariants.{All as EveryPair}
+use Rattle.match_rules.specs.declared.breaks.Break.{Break}
+use Rattle.match_rules.specs.declared.breaks.Break.TheVariants.{Share, Cap}
+use Rattle.match_rules.specs.declared.lottery.Piece.{Piece}
+use Rattle.match_rules.specs.Rules.{RulesValue, pair_at}
+use Rattle.match_rules.specs.Breaks.{unless}
+use Rattle.match_rules.specs.Groups.{group_count}
+use Rattle.match_rules.specs.Pieces.{DoAscend}
+use Rattle.match_rules.specs.Assignments.{Fits, tickets, times}
+
+-- a lottery that fits the rules, has all tickets, and gives each pair its share of them
+pub record IsSound (rules : RulesValue) (shares : List ℕ) (lottery : List Piece) : Type 0 where
+  pub fits : Fits rules EveryPair lottery
+  pub whole : tickets lottery ≡ rules.tickets
+  pub exact : (e : ℕ) → e < length rules.pairs → times lottery e ≡ slice_index shares e
+
+-- how many counters there are of each kind
+pub record ScratchSizes : Type 0 where
+  pub papers : ℕ
+  pub reviewers : ℕ
+  pub groups : ℕ
+  pub pairs : ℕ
+
+-- a counter for each paper, reviewer, group and pair of the rules
+unfoldable pub sizes_of : RulesValue → ScratchSizes
+sizes_of rules = record { papers = length rules.papers; reviewers = length rules.reviewers; groups = group_count rules; pairs = length rules.pairs }
+
+-- places of pairs of the rules, ascending
+pub record ArePlaces (rules : RulesValue) (places : List ℕ) : Type 0 where
+  pub known : All (λ e. e < length rules.pairs) places
+  pub ascending : DoAscend places
+
+-- each counter has the count of its place
+pub record AreCounts (counts : List ℕ) (number : ℕ) (count : ℕ → ℕ) : Type 0 where
+  pub size : length counts ≡ number
+  pub each : (place : ℕ) → place < length counts → slice_index counts place ≡ count place
+
+-- the clauses on shares and caps, with the weights of a pair's pieces counted already
+abbrev pub share_counted : List ℕ → List ℕ → ℕ → Option Break
+share_counted shares counts e = unless (slice_index counts e == slice_index shares e) (Share e (slice_index shares e) (slice_index counts e))
+
+abbrev pub cap_counted : RulesValue → List ℕ → ℕ → Option Break
+cap_counted rules counts e = unless (nat_le (slice_index counts e) (pair_at rules e).cap) (Cap e)
