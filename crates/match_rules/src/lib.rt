@@ -4,6 +4,8 @@
 mod answer;
 mod breaks;
 mod check;
+#[cfg(test)]
+mod check_tests;
 mod examples;
 mod ids;
 mod lists;
