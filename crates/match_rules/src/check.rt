@@ -5,11 +5,13 @@ ghost use Rattle.match_rules.specs.Answers.{LotteryMatches};
 ghost use Rattle.match_rules.specs.Assignments.{holds, paper_count, reviewer_count, tickets, times};
 ghost use Rattle.match_rules.specs.Breaks.{first_break_of, tickets_break, demand_break, load_break, lock_break, share_break, cap_break, in_pieces, piece_breaks, pair_breaks};
 ghost use Rattle.match_rules.specs.First.{first_below};
+ghost use Rattle.match_rules.specs.Groups.{group_count};
 ghost use Rattle.match_rules.specs.Pieces.{ArePieces, DoAscend, piece_at};
 ghost use Rattle.match_rules.specs.Rules.{AreRules};
 ghost use Rattle.match_rules.specs.Sound.{AreCounts, ArePlaces, IsSound, cap_counted, share_counted, sizes_of};
 
 use crate::breaks::Break;
+use crate::group_check::broken_group;
 use crate::lists::Shares;
 use crate::lottery::{Lottery, Piece};
 use crate::rules::Rules;
@@ -22,6 +24,7 @@ use std::marker::Model;
 pub struct Scratch {
     papers: Vec<u32>,
     reviewers: Vec<u32>,
+    groups: Vec<u32>,
     pairs: Vec<u64>,
 }
 
@@ -31,20 +34,22 @@ impl Model for Scratch {
 
     ghost Value = { ScratchSizes };
 
-    ghost view = { λ s. record { papers = length s.papers.items; reviewers = length s.reviewers.items; groups = 0; pairs = length s.pairs.items } };
+    ghost view = { λ s. record { papers = length s.papers.items; reviewers = length s.reviewers.items; groups = length s.groups.items; pairs = length s.pairs.items } };
 }
 
 impl Scratch {
-    /// Counters for the papers, reviewers and pairs of rules.
+    /// Counters for the papers, reviewers, groups and pairs of rules.
     pub fn new(alloc: Global, rules: &Rules) -> Result<Scratch, AllocError>
         ensures { IfOk result (λ scratch. scratch ≡ sizes_of rules.now) }
     {
         let papers = vec![in alloc; 0; rules.papers().len()]?;
         let reviewers = vec![in alloc; 0; rules.reviewers().len()]?;
+        let groups = vec![in alloc; 0; rules.group_count() as usize]?;
         let pairs = vec![in alloc; 0; rules.pairs().len()]?;
         Ok(Scratch {
             papers,
             reviewers,
+            groups,
             pairs,
         })
     }
@@ -209,18 +214,19 @@ fn broken_lock(rules: &Rules, pieces: &[Piece]) -> Option<Break>
     None
 }
 
-// Clauses 2 to 5. Clause 4 can't be broken: no reviewer has an institution, so
-// that there are no groups.
+// Clauses 2 to 5.
 fn broken_piece(
     rules: &Rules,
     pieces: &[Piece],
     papers: &mut [u32],
     reviewers: &mut [u32],
+    groups: &mut [u32],
 ) -> Option<Break>
     requires pieces { ArePieces pieces.now }
     requires known { LotteryMatches rules.now pieces.now }
     requires papers { length papers.old ≡ length rules.now.papers }
     requires reviewers { length reviewers.old ≡ length rules.now.reviewers }
+    requires groups { length groups.old ≡ group_count rules.now }
     ensures { result ≡ piece_breaks rules.now pieces.now }
 {
     let broken = broken_demand(rules, pieces, papers);
@@ -231,7 +237,10 @@ fn broken_piece(
     if broken.is_some() {
         return broken;
     }
-    let _papers = rules.papers();
+    let broken = broken_group(rules, pieces, groups);
+    if broken.is_some() {
+        return broken;
+    }
     broken_lock(rules, pieces)
 }
 
@@ -340,6 +349,7 @@ pub fn first_break(
         pieces,
         scratch.papers.as_mut_slice(),
         scratch.reviewers.as_mut_slice(),
+        scratch.groups.as_mut_slice(),
     );
     if broken.is_some() {
         return broken;

@@ -7,6 +7,8 @@ mod check;
 #[cfg(test)]
 mod check_tests;
 mod examples;
+mod group_check;
+mod groups;
 mod ids;
 mod lists;
 mod lottery;
@@ -24,6 +26,7 @@ pub use check::{Scratch, first_break};
 pub use examples::{
     worked_breaks, worked_cuts, worked_groups, worked_ids, worked_sieves, worked_totals,
 };
+pub use groups::Group;
 pub use ids::{IdFault, Institution, PaperId, ReviewerId};
 pub use lists::{Places, PriceList, Shares};
 pub use lottery::{Lottery, Piece};

@@ -15,10 +15,15 @@ unfolding sizes_of
 broken_piece-broken-requires-clause-reviewers c =
     ap length c.as_mut_slice-2.ensures.value ∙ ap (λ (sizes : ScratchSizes). sizes.reviewers) (c.scratch.view_is ∙ c.requires.scratch)
 
+pub broken_piece-broken-requires-clause-groups : goal.broken_piece-broken-requires-clause-groups
+unfolding sizes_of
+broken_piece-broken-requires-clause-groups c =
+    ap length c.as_mut_slice-3.ensures.value ∙ ap (λ (sizes : ScratchSizes). sizes.groups) (c.scratch.view_is ∙ c.requires.scratch)
+
 pub broken_pair-requires-clause-size : goal.broken_pair-requires-clause-size
 unfolding sizes_of
 broken_pair-requires-clause-size c =
-    ap length c.as_mut_slice-3.ensures.value ∙ ap (λ (sizes : ScratchSizes). sizes.pairs) (c.scratch.view_is ∙ c.requires.scratch)
+    ap length c.as_mut_slice-4.ensures.value ∙ ap (λ (sizes : ScratchSizes). sizes.pairs) (c.scratch.view_is ∙ c.requires.scratch)
 
 pub returns-then-is_some-clause-exact : goal.returns-then-is_some-clause-exact
 unfolding first_break_of

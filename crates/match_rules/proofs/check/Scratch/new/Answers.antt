@@ -1,7 +1,5 @@
-use Rattle.std.proofs.Common.{rules, ◌≡◌, ℕ, sym, refl}
+use Rattle.std.proofs.Common.{rules, ◌≡◌, ℕ, refl}
 use Rattle.match_rules.specs.Sound.{ScratchSizes, sizes_of}
-use Rattle.match_rules.specs.Groups.{group_count}
-use Rattle.match_rules.proofs.NoGroups.{group_count-zero}
 use Rattle.match_rules.proofs.check.Scratch.new.Goals as goal
 
 same_sizes : (a b c d e f g h : ℕ) → a ≡ e → b ≡ f → c ≡ g → d ≡ h
@@ -10,6 +8,4 @@ same_sizes a b c d e f g h p q r s = rw (p, q, r, s) refl
 
 pub returns : goal.returns
 unfolding sizes_of
-returns c =
-    let none : group_count c.args.rules.now ≡ 0 = group_count-zero c.args.rules.now c.papers.ensures.kept in
-    same_sizes _ _ _ _ _ _ _ _ (search rules) (search rules) (sym none) (search rules)
+returns c = same_sizes _ _ _ _ _ _ _ _ (search rules) (search rules) (search rules) (search rules)

@@ -1,0 +1,8 @@
+use Rattle.std.proofs.Common.{take}
+use Rattle.match_rules.specs.Groups.{group_count}
+use Rattle.match_rules.specs.Assignments.{member_count}
+use Rattle.match_rules.specs.Sound.{AreCounts}
+use Rattle.match_rules.proofs.group_check.count_groups.Given as goal
+
+abbrev pub invariant-loop-e : goal.invariant-loop-e
+invariant-loop-e l = AreCounts l.counts (group_count l.rules) (member_count l.rules (take l.e-index l.places))
