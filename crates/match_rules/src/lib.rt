@@ -9,6 +9,8 @@ mod check_tests;
 mod examples;
 mod group_check;
 mod groups;
+#[cfg(test)]
+mod groups_tests;
 mod ids;
 mod lists;
 mod lottery;
