@@ -3,6 +3,8 @@
 
 mod adapters;
 mod calls;
+mod dir;
+mod folder;
 mod memory;
 mod sure;
 mod traits;
@@ -10,6 +12,8 @@ mod writing;
 
 pub use adapters::{ReadSource, WriteSink};
 pub use calls::Calls;
+pub use dir::DirFolder;
+pub use folder::{FileRead, Folder, FolderFault, MOST_FILE_BYTES, MemoryFile, MemoryFolder};
 pub use memory::{MemorySink, MemorySource};
 pub use sure::{SureSink, SureSource};
 pub use traits::{Io, Sink, Source};

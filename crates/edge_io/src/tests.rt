@@ -4,6 +4,7 @@ ghost use Rattle.edge_io.specs.Counts.{HasCause};
 ghost use Rattle.edge_io.specs.Told.{AddsAll};
 
 use crate::*;
+use std::alloc::{AllocError, Global};
 use std::io;
 use std::io::{Cursor, ErrorKind, Read};
 use std::test::Fail;
@@ -147,5 +148,70 @@ fn a_writer_is_written(rt: HostRuntime) -> Result<(), Fail> {
     assert_eq!(rt; sink.write(b"f"), Err(Io::Failed));
     drop(sink);
     assert_eq!(rt; &room, b"abcd");
+    Ok(())
+}
+
+fn file_of(alloc: Global, name: &str, bytes: &[u8]) -> Result<MemoryFile, AllocError> {
+    Ok(MemoryFile {
+        name: String::from_str(alloc, name)?,
+        bytes: Vec::from_slice(alloc, bytes)?,
+    })
+}
+
+// How a read of a file ended, as a word.
+fn word_of(read: Result<FileRead, FolderFault>) -> &'static str {
+    match read {
+        Ok(FileRead::Found(bytes)) => {
+            if bytes.as_slice() == b"first".as_slice() {
+                "first"
+            } else {
+                "other bytes"
+            }
+        }
+        Ok(FileRead::Absent) => "absent",
+        Ok(FileRead::TooLong) => "too long",
+        Err(FolderFault::Failed) => "failed",
+        Err(FolderFault::Memory) => "memory",
+    }
+}
+
+#[test]
+fn the_first_file_of_a_name_is_read(rt: HostRuntime) -> Result<(), Fail> {
+    let alloc = rt.alloc();
+    let mut files = Vec::new(alloc);
+    files.push(file_of(alloc, "other.csv", b"second")?)?;
+    files.push(file_of(alloc, "caps.csv", b"first")?)?;
+    files.push(file_of(alloc, "caps.csv", b"second")?)?;
+    let mut folder = MemoryFolder::new(files, [2].to_vec(alloc)?)?;
+    assert_eq!(rt; word_of(folder.read_whole(alloc, "caps.csv")), "first");
+    assert_eq!(rt; word_of(folder.read_whole(alloc, "caps.csv")), "failed");
+    assert_eq!(rt; word_of(folder.read_whole(alloc, "caps.cs")), "absent");
+    Ok(())
+}
+
+#[test]
+fn a_file_at_the_limit_is_read_and_a_longer_one_is_not(rt: HostRuntime) -> Result<(), Fail> {
+    let alloc = rt.alloc();
+    let mut files = Vec::new(alloc);
+    files.push(MemoryFile {
+        name: String::from_str(alloc, "most")?,
+        bytes: vec![in alloc; 0; MOST_FILE_BYTES]?,
+    })?;
+    files.push(MemoryFile {
+        name: String::from_str(alloc, "more")?,
+        bytes: vec![in alloc; 0; MOST_FILE_BYTES + 1]?,
+    })?;
+    let mut folder = MemoryFolder::new(files, Vec::new(alloc))?;
+    assert_eq!(rt; word_of(folder.read_whole(alloc, "most")), "other bytes");
+    assert_eq!(rt; word_of(folder.read_whole(alloc, "more")), "too long");
+    Ok(())
+}
+
+#[test]
+fn a_file_that_is_not_there_is_absent(rt: HostRuntime) -> Result<(), Fail> {
+    let alloc = rt.alloc();
+    let mut folder = DirFolder::new(rt.clone()?);
+    let word = word_of(folder.read_whole(alloc, "no-such-file.csv"));
+    assert_eq!(rt; word, "absent");
     Ok(())
 }
