@@ -9,8 +9,10 @@ pub mod Groups
 pub mod Id
 pub mod NextRows
 pub mod Pieces
+pub mod Plain
 pub mod Rules
 pub mod RulesFaults
+pub mod SharesFit
 pub mod Sound
 pub mod Sums
 pub mod Thresholds
