@@ -1,0 +1,6 @@
+use Rattle.std.proofs.Common.{arith}
+use Rattle.dual_check.proofs.SumLaws.{count_below_next}
+use Rattle.dual_check.proofs.cuts.least_loads.Goals as goal
+
+pub loop-reviewer-preserved : goal.loop-reviewer-preserved
+loop-reviewer-preserved c = (rw count_below_next (omega arith), omega arith)

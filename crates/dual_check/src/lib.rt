@@ -1,0 +1,15 @@
+// Prices that show a lottery best, and cuts that show that none fits.
+#![tactic(auto)]
+
+mod amounts;
+mod cuts;
+mod keeps;
+mod marks;
+mod prices;
+mod sums;
+#[cfg(test)]
+mod tests;
+
+pub use cuts::{excess, is_violated};
+pub use prices::{bound, is_best};
+pub use sums::Excess;
