@@ -1,5 +1,5 @@
 -- A step over an arc: forward from its tail to its head, or back from its head to its tail.
-use Rattle.std.specs.Prelude.{ℕ, ◌-◌, Bool, if◌then◌else◌, ℤ, pos, neg_ℤ, ◌+ℤ◌, ◌-ℤ◌, List}
+use Rattle.std.specs.Prelude.{ℕ, ◌+◌, ◌-◌, Bool, if◌then◌else◌, ℤ, pos, neg_ℤ, ◌+ℤ◌, ◌-ℤ◌, List}
 use Rattle.bounded_network.specs.declared.network.Arc.{Arc}
 use Rattle.bounded_network.specs.Network.{potential_at}
 
@@ -21,3 +21,7 @@ left_on arc amount forward = if forward then (arc.room - amount) else (amount - 
 abbrev pub step_reduced : Arc → Bool → List ℤ → ℤ
 step_reduced arc forward potentials =
     (step_cost arc forward +ℤ potential_at potentials (start_of arc forward)) -ℤ potential_at potentials (end_of arc forward)
+
+-- what the arc carries once the step carries an amount
+abbrev pub carried : ℕ → Bool → ℕ → ℕ
+carried had forward amount = if forward then (had + amount) else (had - amount)

@@ -1,7 +1,21 @@
 // The state of the solver.
-ghost use Rattle.std.specs.Prelude.{◌≡◌, ◌+◌, ◌*◌, ◌^◌, ◌<◌, ◌≤◌, ◌==◌, length, ℕ, ℤ, pos, negsuc, ◌≤ℤ◌, ◌+ℤ◌, ◌-ℤ◌, slice_index, IfOk};
+ghost use Rattle.std.specs.Prelude.{◌≡◌, ◌+◌, ◌*◌, ◌^◌, ◌<◌, ◌≤◌, ◌==◌, length, ℕ, ℤ, pos, negsuc, ◌≤ℤ◌, ◌+ℤ◌, ◌-ℤ◌, slice_index, slice_set, IfOk};
 ghost use Rattle.bounded_network.specs.Network.{NetworkValue, IsNetwork, arc_at, potential_at};
 ghost use Rattle.flow_solver.specs.State.{IsWithin, excess_at, IsState, IsShifted};
+ghost use Rattle.flow_solver.specs.Step.{start_of, end_of, left_on, step_reduced, carried};
+
+use bounded_network::Network;
+
+use crate::step::{Step, arc_of, carry_on, end, start};
+
+/// An amount for each arc, the excess of each node, what enters it less what leaves it, and a potential for each node.
+#[derive(Drop)]
+pub struct State {
+    pub flow: Vec<u64>,
+    pub excess: Vec<i128>,
+    pub potentials: Vec<i64>,
+}
+
 
 // What is left of an excess when the amount is gone.
 fn less(excess: i128, amount: u64) -> i128
@@ -29,4 +43,21 @@ fn shift(excess: &mut [i128], from: u32, to: u32, amount: u64)
 {
     excess[from as usize] = less(excess[from as usize], amount);
     excess[to as usize] = more(excess[to as usize], amount);
+}
+
+/// Carries the amount over the step.
+pub fn carry(net: &Network, state: &mut State, step: Step, amount: u64)
+    requires arc_in { step.arc < length net.now.arcs }
+    requires fits { amount ≤ left_on (arc_at net.now step.arc) (slice_index state.old.flow.items step.arc) step.forward }
+    requires tight { step_reduced (arc_at net.now step.arc) step.forward state.old.potentials.items ≡ pos 0 }
+    requires kept { IsState net.now state.old.flow.items state.old.excess.items state.old.potentials.items }
+    ensures kept { IsState net.now state.new.flow.items state.new.excess.items state.new.potentials.items }
+    ensures shifted { IsShifted state.old.excess.items state.new.excess.items (start_of (arc_at net.now step.arc) step.forward) (end_of (arc_at net.now step.arc) step.forward) amount }
+    ensures flow { state.new.flow.items ≡ slice_set state.old.flow.items step.arc (carried (slice_index state.old.flow.items step.arc) step.forward amount) }
+    ensures potentials { state.new.potentials.items ≡ state.old.potentials.items }
+{
+    let arc = arc_of(net, step.arc);
+    let had = state.flow[step.arc as usize];
+    state.flow[step.arc as usize] = carry_on(arc, had, step.forward, amount);
+    shift(&mut state.excess, start(arc, step.forward), end(arc, step.forward), amount);
 }

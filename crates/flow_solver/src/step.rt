@@ -1,6 +1,6 @@
 // Steps over arcs.
-ghost use Rattle.std.specs.Prelude.{◌≡◌, ◌<◌, ◌≤◌, length, ℤ, pos, negsuc, ◌≤ℤ◌, ℕ};
-ghost use Rattle.flow_solver.specs.Step.{start_of, end_of, step_cost, left_on};
+ghost use Rattle.std.specs.Prelude.{◌≡◌, ◌<◌, ◌≤◌, length, ℤ, pos, negsuc, ◌≤ℤ◌, ℕ, ◌^◌};
+ghost use Rattle.flow_solver.specs.Step.{start_of, end_of, step_cost, left_on, carried};
 ghost use Rattle.bounded_network.specs.Network.{arc_at, IsNetwork, IsArc};
 
 use bounded_network::{Arc, Network};
@@ -16,6 +16,7 @@ pub fn arc_of(net: &Network, place: u32) -> Arc
     requires { place < length net.now.arcs }
     ensures value { result ≡ arc_at net.now place }
     ensures within { IsArc net.now.nodes result }
+    ensures kept { IsNetwork net.now }
 {
     net.arcs()[place as usize]
 }
@@ -46,4 +47,14 @@ pub fn cost(arc: Arc, forward: bool) -> i64
     ensures { result ≡ step_cost arc forward }
 {
     if forward { arc.cost } else { -arc.cost }
+}
+
+/// What the arc carries once the step carries the amount.
+pub fn carry_on(arc: Arc, had: u64, forward: bool, amount: u64) -> u64
+    requires least { arc.floor ≤ had }
+    requires most { had ≤ arc.room }
+    requires fits { amount ≤ left_on arc had forward }
+    ensures { result ≡ carried had forward amount }
+{
+    if forward { had + amount } else { had - amount }
 }
