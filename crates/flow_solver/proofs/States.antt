@@ -39,7 +39,7 @@ when-+ true x y = refl
 when-+ false x y = omega arith
 
 -- the greatest sum that a node can have
-when_at_most : (b : Bool) (x : ℕ) → when b x ≤ x
+pub when_at_most : (b : Bool) (x : ℕ) → when b x ≤ x
 when_at_most true x = omega arith
 when_at_most false x = omega arith
 

@@ -2,5 +2,6 @@
 #![tactic(auto)]
 
 mod queue;
+mod start;
 mod state;
 mod step;

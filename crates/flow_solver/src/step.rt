@@ -12,6 +12,14 @@ pub struct Step {
     pub forward: bool,
 }
 
+/// The number of arcs.
+pub fn arc_count(net: &Network) -> u32
+    ensures value { result ≡ length net.now.arcs }
+    ensures kept { IsNetwork net.now }
+{
+    net.arcs().len() as u32
+}
+
 pub fn arc_of(net: &Network, place: u32) -> Arc
     requires { place < length net.now.arcs }
     ensures value { result ≡ arc_at net.now place }
