@@ -1,1 +1,3 @@
+pub mod GroupKeys
+pub mod GroupLaws
 pub mod IdLaws
