@@ -6,7 +6,9 @@ pub mod First
 pub mod Groups
 pub mod Id
 pub mod Pieces
+pub mod Plain
 pub mod Rules
 pub mod RulesFaults
+pub mod SharesFit
 pub mod Sums
 pub mod Thresholds
