@@ -1,3 +1,4 @@
+pub mod Compiled
 pub mod Counts
 pub mod Laws
 pub mod Nodes
