@@ -4,4 +4,6 @@ pub mod Laws
 pub mod Nodes
 pub mod Parts
 pub mod Scaled
+pub mod ScaledLaws
+pub mod Small
 pub mod Sums

@@ -1,3 +1,4 @@
 pub mod Compile
 pub mod Network
+pub mod Scaled
 pub mod Spans
