@@ -3,6 +3,7 @@ pub mod Counts
 pub mod Laws
 pub mod Nodes
 pub mod Parts
+pub mod PriceLaws
 pub mod Scaled
 pub mod ScaledLaws
 pub mod Small

@@ -1,3 +1,4 @@
+pub mod Back
 pub mod Compile
 pub mod Network
 pub mod Scaled
