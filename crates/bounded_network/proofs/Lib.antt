@@ -1,5 +1,6 @@
 pub mod Compiled
 pub mod Counts
+pub mod CutLaws
 pub mod Laws
 pub mod Nodes
 pub mod Parts
