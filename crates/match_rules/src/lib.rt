@@ -6,6 +6,7 @@ mod breaks;
 mod ids;
 mod lists;
 mod lottery;
+mod making;
 mod rules;
 
 pub use answer::{Answer, Blocked, Cut, Level, Mode, Prices, Side, Sieve, Winning};

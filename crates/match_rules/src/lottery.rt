@@ -35,6 +35,14 @@ impl Model for Lottery {
 }
 
 impl Lottery {
+    /// The lottery of these pieces, for a caller that tested their conditions.
+    pub fn of_tested(pieces: Vec<Piece>) -> Lottery
+        requires { ArePieces pieces.items }
+        ensures { result ≡ pieces.items }
+    {
+        Lottery { pieces }
+    }
+
     /// The pieces, ascending by their lists of places.
     pub fn pieces(&self) -> &[Piece]
         ensures value { result.now ≡ self.now }

@@ -1,7 +1,7 @@
 // The rules of one edition: papers, reviewers and candidate pairs.
 
 ghost use Rattle.std.specs.Prelude.{◌≡◌, length};
-ghost use Rattle.match_rules.specs.Rules.{RulesValue, AreRules, locked_places};
+ghost use Rattle.match_rules.specs.Rules.{RulesValue, AreRules, locked_places, rules_value};
 
 use crate::ids::{Institution, PaperId, ReviewerId};
 use std::marker::Model;
@@ -87,6 +87,28 @@ pub enum RulesFault {
 }
 
 impl Rules {
+    // The rules of a limit and three lists, with the places of the locked pairs.
+    pub(crate) fn of_parts(
+        limit: u32,
+        papers: Vec<RulePaper>,
+        reviewers: Vec<RuleReviewer>,
+        pairs: Vec<RulePair>,
+        locked: Vec<u32>,
+    ) -> Rules
+        requires rules { AreRules (rules_value limit papers.items reviewers.items pairs.items) }
+        requires locked { locked.items ≡ locked_places (rules_value limit papers.items reviewers.items pairs.items) }
+        ensures { result ≡ rules_value limit papers.items reviewers.items pairs.items }
+    {
+        Rules {
+            tickets: MOST_TICKETS,
+            limit,
+            papers,
+            reviewers,
+            pairs,
+            locked,
+        }
+    }
+
     /// The number of tickets over which a lottery is split.
     pub fn tickets(&self) -> u32
         ensures value { result ≡ self.now.tickets }
