@@ -7,6 +7,7 @@ mod ids;
 mod lists;
 mod lottery;
 mod making;
+mod pieces;
 mod rules;
 
 pub use answer::{Answer, Blocked, Cut, Level, Mode, Prices, Side, Sieve, Winning};

@@ -1,9 +1,11 @@
 // Lotteries: weighted whole assignments.
 
-ghost use Rattle.std.specs.Prelude.{◌≡◌, length};
+ghost use Rattle.std.specs.Prelude.{◌≡◌, ◌↔◌, length, IfOk, IfErr, IsOk};
 ghost use Rattle.match_rules.specs.Pieces.{ArePieces};
 
 use crate::lists::Places;
+use crate::pieces::are_pieces;
+use std::alloc::{AllocError, Global};
 use std::marker::Model;
 
 /// A whole assignment with the number of tickets that draw it.
@@ -35,6 +37,20 @@ impl Model for Lottery {
 }
 
 impl Lottery {
+    /// The lottery of these pieces, without taking memory. Pieces that aren't
+    /// one are given back.
+    pub fn new(pieces: Vec<Piece>) -> Result<Lottery, Vec<Piece>>
+        ensures value { IfOk result (λ lottery. lottery ≡ pieces.items) }
+        ensures exact { IsOk result ↔ ArePieces pieces.items }
+        ensures back { IfErr result (λ back. back.items ≡ pieces.items) }
+    {
+        if are_pieces(pieces.as_slice()) {
+            Ok(Lottery { pieces })
+        } else {
+            Err(pieces)
+        }
+    }
+
     /// The lottery of these pieces, for a caller that tested their conditions.
     pub fn of_tested(pieces: Vec<Piece>) -> Lottery
         requires { ArePieces pieces.items }
