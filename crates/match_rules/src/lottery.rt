@@ -17,6 +17,19 @@ pub struct Piece {
     pub pairs: Places,
 }
 
+impl Piece {
+    /// An equal piece.
+    pub fn copy(&self, alloc: Global) -> Result<Self, AllocError>
+        ensures { IfOk result (λ copy. copy ≡ self.now) }
+    {
+        let pairs = self.pairs.copy(alloc)?;
+        Ok(Piece {
+            weight: self.weight,
+            pairs,
+        })
+    }
+}
+
 /// A list of pieces whose lists of places strictly ascend in lexicographic
 /// order, at most as many as the greatest number of tickets.
 #[derive(Drop)]
@@ -67,4 +80,22 @@ impl Lottery {
     {
         self.pieces.as_slice()
     }
+
+    /// An equal lottery.
+    pub fn copy(&self, alloc: Global) -> Result<Self, AllocError>
+        ensures { IfOk result (λ copy. copy ≡ self.now) }
+    {
+        let pieces = copy_pieces(alloc, self.pieces.as_slice())?;
+        Ok(Lottery { pieces })
+    }
+}
+
+fn copy_pieces(alloc: Global, pieces: &[Piece]) -> Result<Vec<Piece>, AllocError>
+    ensures { IfOk result (λ copies. copies.items ≡ pieces.now) }
+{
+    let mut copies = Vec::new(alloc);
+    for piece in pieces {
+        copies.push(piece.copy(alloc)?)?;
+    }
+    Ok(copies)
 }

@@ -47,7 +47,10 @@ fn do_pieces_ascend(pieces: &[Piece]) -> bool
     ensures { IsTrue result ↔ ((k : ℕ) → k + 1 < length pieces.now → slice_cmp nat_cmp (piece_at pieces.now k).pairs (piece_at pieces.now (k + 1)).pairs ≡ Less) }
 {
     for i in 1..pieces.len() {
-        let order = pieces[i - 1].pairs.as_slice().cmp(pieces[i].pairs.as_slice());
+        let order = pieces[i - 1]
+            .pairs
+            .as_slice()
+            .cmp(pieces[i].pairs.as_slice());
         if !order.is_lt() {
             return false;
         }

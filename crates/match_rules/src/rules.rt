@@ -1,9 +1,10 @@
 // The rules of one edition: papers, reviewers and candidate pairs.
 
-ghost use Rattle.std.specs.Prelude.{◌≡◌, length};
+ghost use Rattle.std.specs.Prelude.{◌≡◌, length, IfOk};
 ghost use Rattle.match_rules.specs.Rules.{RulesValue, AreRules, locked_places, rules_value};
 
 use crate::ids::{Institution, PaperId, ReviewerId};
+use std::alloc::{AllocError, Global};
 use std::marker::Model;
 
 /// The greatest number of tickets that a lottery is split over.
@@ -18,6 +19,19 @@ pub struct RulePaper {
     pub demand: u32,
 }
 
+impl RulePaper {
+    /// An equal paper.
+    pub fn copy(&self, alloc: Global) -> Result<Self, AllocError>
+        ensures { IfOk result (λ copy. copy ≡ self.now) }
+    {
+        let id = self.id.copy(alloc)?;
+        Ok(RulePaper {
+            id,
+            demand: self.demand,
+        })
+    }
+}
+
 /// A reviewer with the numbers of papers that they may have in an assignment.
 #[derive(Drop)]
 pub struct RuleReviewer {
@@ -29,6 +43,25 @@ pub struct RuleReviewer {
     pub least: u32,
     /// The greatest number of papers in each assignment, up to 1,500.
     pub greatest: u32,
+}
+
+impl RuleReviewer {
+    /// An equal reviewer.
+    pub fn copy(&self, alloc: Global) -> Result<Self, AllocError>
+        ensures { IfOk result (λ copy. copy ≡ self.now) }
+    {
+        let id = self.id.copy(alloc)?;
+        let institution = match &self.institution {
+            Some(institution) => Some(institution.copy(alloc)?),
+            None => None,
+        };
+        Ok(RuleReviewer {
+            id,
+            institution,
+            least: self.least,
+            greatest: self.greatest,
+        })
+    }
 }
 
 /// A candidate pair of a paper and a reviewer.
@@ -160,4 +193,45 @@ impl Rules {
     {
         self.locked.as_slice()
     }
+
+    /// Equal rules.
+    pub fn copy(&self, alloc: Global) -> Result<Self, AllocError>
+        ensures { IfOk result (λ copy. copy ≡ self.now) }
+    {
+        let papers = copy_papers(alloc, self.papers.as_slice())?;
+        let reviewers = copy_reviewers(alloc, self.reviewers.as_slice())?;
+        let pairs = Vec::from_slice(alloc, self.pairs.as_slice())?;
+        let locked = Vec::from_slice(alloc, self.locked.as_slice())?;
+        Ok(Rules {
+            tickets: self.tickets,
+            limit: self.limit,
+            papers,
+            reviewers,
+            pairs,
+            locked,
+        })
+    }
+}
+
+fn copy_papers(alloc: Global, papers: &[RulePaper]) -> Result<Vec<RulePaper>, AllocError>
+    ensures { IfOk result (λ copies. copies.items ≡ papers.now) }
+{
+    let mut copies = Vec::new(alloc);
+    for paper in papers {
+        copies.push(paper.copy(alloc)?)?;
+    }
+    Ok(copies)
+}
+
+fn copy_reviewers(
+    alloc: Global,
+    reviewers: &[RuleReviewer],
+) -> Result<Vec<RuleReviewer>, AllocError>
+    ensures { IfOk result (λ copies. copies.items ≡ reviewers.now) }
+{
+    let mut copies = Vec::new(alloc);
+    for reviewer in reviewers {
+        copies.push(reviewer.copy(alloc)?)?;
+    }
+    Ok(copies)
 }
