@@ -1,2 +1,3 @@
 pub mod IdLaws
 pub mod Locked
+pub mod Fronts

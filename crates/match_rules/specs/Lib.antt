@@ -5,6 +5,7 @@ pub mod Evidence
 pub mod First
 pub mod Groups
 pub mod Id
+pub mod NextRows
 pub mod Pieces
 pub mod Rules
 pub mod RulesFaults

@@ -7,6 +7,7 @@ mod ids;
 mod lists;
 mod lottery;
 mod making;
+mod parts;
 mod pieces;
 mod rules;
 
