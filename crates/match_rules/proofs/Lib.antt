@@ -1,3 +1,4 @@
 pub mod IdLaws
 pub mod Locked
 pub mod Fronts
+pub mod NoGroups

@@ -9,7 +9,7 @@ ghost use Rattle.match_rules.specs.Pieces.{ArePieces, DoAscend, piece_at};
 use crate::lottery::Piece;
 use crate::rules::MOST_TICKETS;
 
-fn do_ascend(places: &[u32]) -> bool
+pub(crate) fn do_ascend(places: &[u32]) -> bool
     ensures { IsTrue result ↔ DoAscend places.now }
 {
     for i in 1..places.len() {
