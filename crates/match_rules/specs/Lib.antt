@@ -2,6 +2,7 @@ pub mod Answers
 pub mod Assignments
 pub mod Breaks
 pub mod Evidence
+pub mod Examples
 pub mod First
 pub mod Groups
 pub mod Id

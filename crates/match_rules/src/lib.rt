@@ -3,6 +3,7 @@
 
 mod answer;
 mod breaks;
+mod examples;
 mod ids;
 mod lists;
 mod lottery;
@@ -14,6 +15,9 @@ mod rules;
 
 pub use answer::{Answer, Blocked, Cut, Level, Mode, Prices, Side, Sieve, Winning};
 pub use breaks::Break;
+pub use examples::{
+    worked_breaks, worked_cuts, worked_groups, worked_ids, worked_sieves, worked_totals,
+};
 pub use ids::{IdFault, Institution, PaperId, ReviewerId};
 pub use lists::{Places, PriceList, Shares};
 pub use lottery::{Lottery, Piece};
