@@ -1,3 +1,5 @@
+pub mod GroupKeys
+pub mod GroupLaws
 pub mod IdLaws
 pub mod Locked
 pub mod Fronts
