@@ -4,3 +4,5 @@ pub mod IdLaws
 pub mod Locked
 pub mod Fronts
 pub mod NoGroups
+pub mod Names
+pub mod Numbers

@@ -4,6 +4,7 @@ pub mod Breaks
 pub mod Evidence
 pub mod Examples
 pub mod First
+pub mod GroupTable
 pub mod Groups
 pub mod Id
 pub mod NextRows

@@ -4,6 +4,7 @@
 mod answer;
 mod breaks;
 mod examples;
+mod groups;
 mod ids;
 mod lists;
 mod lottery;
