@@ -14,7 +14,8 @@ use Rattle.std.proofs.lemmas.Map.Keys.{Less-from_sorted}
 use Rattle.std.proofs.lemmas.Option.{same_Some, option_and_then_some}
 use Rattle.match_rules.specs.Rules.{RulesValue, pair_at, reviewer_at}
 use Rattle.match_rules.specs.Groups.{GroupKey, key_cmp, same_key, key_of, put_key, put_some, keys_below, groups, group_count, group_of, no_key, group_key, paper_of_group}
-use Rattle.match_rules.proofs.GroupKeys.{key_cmp_total, same_keys, sorted_put, IsIn, new_in_put, old_in_put, in_put_cases, length_put, place_of_key, key_at_place}
+use Rattle.match_rules.proofs.GroupKeys.{key_cmp_total, same_keys, sorted_put, new_in_put, old_in_put, in_put_cases, length_put}
+use Rattle.match_rules.proofs.Ascending.{IsIn, place_of_item, item_at_place, place_in_sorted}
 
 tied_by_test : (r : Ordering) → is_eq r ≡ true → r ≡ Equal
 tied_by_test Less t = absurd (cc t)
@@ -98,22 +99,11 @@ group_count_few rules = few_below rules (length rules.pairs)
 
 -- ---- the place of a key among those that ascend
 
-same_as_itself : (key : GroupKey) → same_key key key ≡ true
-same_as_itself key = ap is_eq (tied_itself key_cmp_total key)
-
-other_than_lower : (low high : GroupKey) → key_cmp low high ≡ Less → same_key high low ≡ false
-other_than_lower low high e = ap is_eq (key_cmp_total.antisymm high low ∙ ap ordering_reverse e)
-
 found_at : {X : Type 0} (p : X → Bool) (xs : List X) (g : ℕ) → g < length xs → position_or_len p xs ≡ g → position p xs ≡ Some g
 found_at p xs g h e = let yes : ltb g (length xs) ≡ true = grind (arith, nat_tests) in rw e (rw yes refl)
 
 pub place_is : (keys : List GroupKey) (g : ℕ) → IsStrictlySortedBy key_cmp keys → g < length keys → position (same_key (get_or keys g no_key)) keys ≡ Some g
-place_is keys g s h =
-    let key = get_or keys g no_key in
-    found_at (same_key key) keys g h
-    (position_or_len_is (same_key key) keys g no_key (omega arith)
-    (λ k below. other_than_lower (get_or keys k no_key) key (Less-from_sorted key_cmp keys k g no_key s below h))
-    (λ within. same_as_itself key))
+place_is keys g s h = found_at (same_key (get_or keys g no_key)) keys g h (place_in_sorted key_cmp_total keys g no_key s h)
 
 -- ---- the group of a pair
 
@@ -163,13 +153,13 @@ group_of_is rules e g h k = rw k (place_is (groups rules) g (groups_ascend rules
 pub group_of_some : (rules : RulesValue) (e : ℕ) (key : GroupKey) → e < length rules.pairs → key_of rules e ≡ Some key
     → (g : ℕ) × (g < group_count rules) × (group_of rules e ≡ Some g) × (group_key rules g ≡ key)
 group_of_some rules e key h k =
-    let at = place_of_key key no_key (groups rules) (key_in_groups rules e key h k) in
+    let at = place_of_item key no_key (groups rules) (key_in_groups rules e key h k) in
     (at.0, at.1, group_of_is rules e at.0 at.1 (k ∙ ap (λ x. Some x) (sym at.2)), at.2)
 
 -- no group is without a pair
 pub group_has_pair : (rules : RulesValue) (g : ℕ) → g < group_count rules → (e : ℕ) × (e < length rules.pairs) × (group_of rules e ≡ Some g)
 group_has_pair rules g h =
-    let found = pair_of_group rules (group_key rules g) (key_at_place no_key (groups rules) g h) in
+    let found = pair_of_group rules (group_key rules g) (item_at_place no_key (groups rules) g h) in
     (found.0, found.1, group_of_is rules found.0 g h found.2)
 
 -- a pair is in no group exactly where its reviewer has no institution

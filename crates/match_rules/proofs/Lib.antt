@@ -1,3 +1,4 @@
+pub mod Ascending
 pub mod GroupKeys
 pub mod GroupLaws
 pub mod IdLaws
