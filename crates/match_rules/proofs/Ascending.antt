@@ -111,6 +111,17 @@ same_ascending (x ∷ xs) [] s t p q = absurd (q x (inl refl))
 same_ascending (x ∷ xs) (y ∷ ys) s t p q =
     let heads : x ≡ y = same_heads x y (head_or_below y x ys t.0 (q x (inl refl))) (head_or_below x y xs s.0 (p y (inl refl))) in
     let tails : xs ≡ ys = same_ascending xs ys s.1 t.1
-        (λ z h. tail_in y z ys xs x (sym heads) t.0 h (p z (inr h)))
-        (λ z h. tail_in x z xs ys y heads s.0 h (q z (inr h))) in
+    (λ z h. tail_in y z ys xs x (sym heads) t.0 h (p z (inr h)))
+    (λ z h. tail_in x z xs ys y heads s.0 h (q z (inr h))) in
     λ i. heads i ∷ tails i
+
+-- ---- the items that are there, by places
+
+pub all_present : (codes : List (Option ℕ)) (there : List ℕ) → there ≡ filter_map (λ c. c) codes → (x : ℕ) → Contains codes (Some x) → Contains there x
+all_present codes there e x h = subst (λ list. Contains list x) (sym e) (contains_from_in x (filter_map (λ c. c) codes) (in_present x codes (in_from_contains (Some x) codes h)))
+
+pub only_present : (codes : List (Option ℕ)) (there : List ℕ) → there ≡ filter_map (λ c. c) codes → (x : ℕ) → Contains there x → Contains codes (Some x)
+only_present codes there e x h = contains_from_in (Some x) codes (from_present x codes (in_from_contains x (filter_map (λ c. c) codes) (subst (λ list. Contains list x) e h)))
+
+pub few_present : (codes : List (Option ℕ)) (there : List ℕ) → there ≡ filter_map (λ c. c) codes → length there ≤ length codes
+few_present codes there e = rw e (length_present codes)

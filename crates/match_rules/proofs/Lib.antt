@@ -1,4 +1,5 @@
 pub mod Ascending
+pub mod GroupCodes
 pub mod GroupKeys
 pub mod GroupLaws
 pub mod IdLaws

@@ -70,9 +70,9 @@ not_missing xs name i s has splits =
     let parts = splits (searchable_from_sorted nat_list_cmp_total (λ (r : Bor (List ℕ)). r.now) xs name.now (by_search xs s)) in
     let within : has.0 < length xs = omega (arith, has.1.0, length_texts xs) in
     let tie : by_text (get_or xs has.0 name) name ≡ Equal =
-        ap (λ text. id_cmp text name.now) (sym (text_at xs has.0 name within) ∙ has.1.1) ∙ tied_itself nat_list_cmp_total name.now in
+    ap (λ text. id_cmp text name.now) (sym (text_at xs has.0 name within) ∙ has.1.1) ∙ tied_itself nat_list_cmp_total name.now in
     elim (cases_lt has.0 i) as (λ _. ⊥) [
-        inl below ↦ let less = parts.0 has.0 name (omega arith) below in cc (less, tie)
+      | inl below ↦ let less = parts.0 has.0 name (omega arith) below in cc (less, tie)
       | inr above ↦ let greater = parts.1 has.0 name above within in cc (greater, tie)
     ]
 
@@ -106,13 +106,13 @@ pub named_more : (xs ys : List (Bor (List ℕ))) (x : Bor (List ℕ)) (reviewers
     → AreNamedBelow (texts xs) reviewers i → AreNamedBelow (texts ys) reviewers (i + 1)
 named_more xs ys x reviewers i item e within at is named r name below has =
     rw e (elim (cases_lt r i) as (λ _. HasName (texts (xs ++ x ∷ [])) name) [
-        inl before ↦ has_before xs x name (named r name before has)
+      | inl before ↦ has_before xs x name (named r name before has)
       | inr last ↦
-            let same : r ≡ i = omega arith in
-            let read : item ≡ reviewer_in reviewers i = get_or_read reviewers i item within at no_reviewer in
-            let there : (reviewer_in reviewers i).institution ≡ Some name = ap (λ k. (reviewer_in reviewers k).institution) (sym same) ∙ has in
-            let text : x.now ≡ name = same_Some _ _ (sym is ∙ ap (λ (v : RuleReviewer). v.institution) read ∙ there) in
-            subst (HasName (texts (xs ++ x ∷ []))) text (has_last xs x)
+          let same : r ≡ i = omega arith in
+          let read : item ≡ reviewer_in reviewers i = get_or_read reviewers i item within at no_reviewer in
+          let there : (reviewer_in reviewers i).institution ≡ Some name = ap (λ k. (reviewer_in reviewers k).institution) (sym same) ∙ has in
+          let text : x.now ≡ name = same_Some _ _ (sym is ∙ ap (λ (v : RuleReviewer). v.institution) read ∙ there) in
+          subst (HasName (texts (xs ++ x ∷ []))) text (has_last xs x)
     ])
 
 -- and one without
@@ -121,12 +121,12 @@ pub named_same : (xs : List (Bor (List ℕ))) (reviewers : List RuleReviewer) (i
     → AreNamedBelow (texts xs) reviewers i → AreNamedBelow (texts xs) reviewers (i + 1)
 named_same xs reviewers i item within at is named r name below has =
     elim (cases_lt r i) as (λ _. HasName (texts xs) name) [
-        inl before ↦ named r name before has
+      | inl before ↦ named r name before has
       | inr last ↦
-            let same : r ≡ i = omega arith in
-            let read : item ≡ reviewer_in reviewers i = get_or_read reviewers i item within at no_reviewer in
-            let there : (reviewer_in reviewers i).institution ≡ Some name = ap (λ k. (reviewer_in reviewers k).institution) (sym same) ∙ has in
-            absurd (none-some name (sym is ∙ ap (λ (v : RuleReviewer). v.institution) read ∙ there))
+          let same : r ≡ i = omega arith in
+          let read : item ≡ reviewer_in reviewers i = get_or_read reviewers i item within at no_reviewer in
+          let there : (reviewer_in reviewers i).institution ≡ Some name = ap (λ k. (reviewer_in reviewers k).institution) (sym same) ∙ has in
+          absurd (none-some name (sym is ∙ ap (λ (v : RuleReviewer). v.institution) read ∙ there))
     ]
 
 pub few_more : (xs ys : List (Bor (List ℕ))) (x : Bor (List ℕ)) (i : ℕ) → ys ≡ xs ++ x ∷ [] → length xs ≤ i → length ys ≤ i + 1

@@ -17,7 +17,7 @@ not_missing_number xs x place rises (k, within, at) found =
     let parts = searched xs x (Err place) found (λ i j h w. rising i j 0 h w) in
     let there : get_or xs k 0 ≡ x = get_or_default xs k 0 x within ∙ at in
     elim (cases_lt k place) as (λ _. ⊥) [
-        inl below ↦ let low = parts.1 k below in omega (arith, low, there)
+      | inl below ↦ let low = parts.1 k below in omega (arith, low, there)
       | inr above ↦ let high = parts.2 k above within in omega (arith, high, there)
     ]
 

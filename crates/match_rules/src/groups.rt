@@ -62,7 +62,11 @@ fn rank_of(names: &[&str], reviewer: &RuleReviewer) -> Option<u32>
 }
 
 // The place of each reviewer's institution.
-fn ranks_among(alloc: Global, names: &[&str], reviewers: &[RuleReviewer]) -> Result<Vec<Option<u32>>, AllocError>
+fn ranks_among(
+    alloc: Global,
+    names: &[&str],
+    reviewers: &[RuleReviewer],
+) -> Result<Vec<Option<u32>>, AllocError>
     requires few { length names.now ≤ 1500 }
     requires ascending { IsStrictlySortedBy id_cmp (texts names.now) }
     requires there { AreNamed (texts names.now) reviewers.now }
@@ -98,7 +102,11 @@ fn code(ranks: &[Option<u32>], pair: &RulePair) -> Option<u32>
 }
 
 // The numbers of all pairs.
-fn codes(alloc: Global, ranks: &[Option<u32>], pairs: &[RulePair]) -> Result<Vec<Option<u32>>, AllocError>
+fn codes(
+    alloc: Global,
+    ranks: &[Option<u32>],
+    pairs: &[RulePair],
+) -> Result<Vec<Option<u32>>, AllocError>
     requires pairs { (e : ℕ) → e < length pairs.now → ((pair_in pairs.now e).paper < 1500) × ((pair_in pairs.now e).reviewer < length ranks.now) }
     requires ranks { AreSmall ranks.now }
     ensures { IfOk result (λ codes. codes.items ≡ map (code_of ranks.now) pairs.now) }
@@ -129,6 +137,17 @@ fn distinct_numbers(mut numbers: Vec<u32>) -> Vec<u32>
     numbers
 }
 
+// The numbers of codes, ascending, each once.
+fn numbers_of(alloc: Global, codes: &[Option<u32>]) -> Result<Vec<u32>, AllocError>
+    ensures few { IfOk result (λ numbers. length numbers.items ≤ length codes.now) }
+    ensures ascending { IfOk result (λ numbers. IsStrictlyIncreasing numbers.items) }
+    ensures all { IfOk result (λ numbers. (x : ℕ) → Contains codes.now (Some x) → Contains numbers.items x) }
+    ensures only { IfOk result (λ numbers. (x : ℕ) → Contains numbers.items x → Contains codes.now (Some x)) }
+{
+    let numbers = present(alloc, codes)?;
+    Ok(distinct_numbers(numbers))
+}
+
 // The place of a number among numbers that ascend.
 fn place_among(numbers: &[u32], number: u32) -> u32
     requires few { length numbers.now ≤ 250000 }
@@ -156,7 +175,11 @@ fn code_place(numbers: &[u32], code: Option<u32>) -> Option<u32>
 }
 
 // The places of all pairs' numbers.
-fn code_places(alloc: Global, numbers: &[u32], codes: &[Option<u32>]) -> Result<Vec<Option<u32>>, AllocError>
+fn code_places(
+    alloc: Global,
+    numbers: &[u32],
+    codes: &[Option<u32>],
+) -> Result<Vec<Option<u32>>, AllocError>
     requires few { length numbers.now ≤ 250000 }
     requires ascending { IsStrictlyIncreasing numbers.now }
     requires there { (x : ℕ) → Contains codes.now (Some x) → Contains numbers.now x }
@@ -208,7 +231,11 @@ fn table_of(alloc: Global, codes: &[Option<u32>], numbers: &[u32]) -> Result<Gro
 }
 
 /// The groups of the pairs. Time n log n.
-pub(crate) fn group_table(alloc: Global, reviewers: &[RuleReviewer], pairs: &[RulePair]) -> Result<GroupTable, AllocError>
+pub(crate) fn group_table(
+    alloc: Global,
+    reviewers: &[RuleReviewer],
+    pairs: &[RulePair],
+) -> Result<GroupTable, AllocError>
     requires few { length reviewers.now ≤ 1500 }
     requires few_pairs { length pairs.now ≤ 250000 }
     requires places { (e : ℕ) → e < length pairs.now → ((pair_in pairs.now e).paper < 1500) × ((pair_in pairs.now e).reviewer < length reviewers.now) }
@@ -216,6 +243,6 @@ pub(crate) fn group_table(alloc: Global, reviewers: &[RuleReviewer], pairs: &[Ru
 {
     let ranks = ranks(alloc, reviewers)?;
     let codes = codes(alloc, &ranks, pairs)?;
-    let numbers = distinct_numbers(present(alloc, &codes)?);
+    let numbers = numbers_of(alloc, &codes)?;
     table_of(alloc, &codes, &numbers)
 }

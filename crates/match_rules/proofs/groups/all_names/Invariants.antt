@@ -5,6 +5,6 @@ use Rattle.match_rules.proofs.groups.all_names.Given as goal
 
 abbrev pub invariant-loop-reviewer : goal.invariant-loop-reviewer
 invariant-loop-reviewer l = record {
-    few : length l.names.items ≤ l.reviewer-index;
-    named : (r : ℕ) (name : List ℕ) → r < l.reviewer-index → (reviewer_in l.reviewers r).institution ≡ Some name → HasName (texts l.names.items) name
-  }
+  few : length l.names.items ≤ l.reviewer-index;
+  named : (r : ℕ) (name : List ℕ) → r < l.reviewer-index → (reviewer_in l.reviewers r).institution ≡ Some name → HasName (texts l.names.items) name;
+}
