@@ -1,5 +1,5 @@
 -- The first rows of a list keep all conditions exactly where each of them keeps those of a next row.
-use Rattle.std.proofs.Common.{◌≡◌, ℕ, zero, suc, ◌+◌, ◌<◌, ◌≤◌, List, length, take, true, None, refl, ap, sym, ◌∙◌, subst, arith, add-one}
+use Rattle.std.proofs.Common.{◌≡◌, ℕ, zero, suc, ◌+◌, ◌<◌, ◌≤◌, List, length, take, true, Some, refl, ap, sym, ◌∙◌, subst, arith, add-one}
 use Rattle.std.proofs.Common.{inl, inr}
 use Rattle.std.proofs.lemmas.Bool.{cases_lt}
 use Rattle.std.proofs.lemmas.List.{get_or-take, length-take-le, take_all}
@@ -7,7 +7,7 @@ use Rattle.std.specs.declared.cmp.Ordering.TheVariants.{Less}
 use Rattle.match_rules.specs.declared.rules.RulePaper.{RulePaper}
 use Rattle.match_rules.specs.declared.rules.RuleReviewer.{RuleReviewer}
 use Rattle.match_rules.specs.declared.rules.RulePair.{RulePair}
-use Rattle.match_rules.specs.Id.{is_id}
+use Rattle.match_rules.specs.Id.{is_id, is_institution}
 use Rattle.match_rules.specs.Rules.{no_paper, no_reviewer, no_pair, paper_in, reviewer_in, pair_in, id_cmp, IsPair, IsPairBefore, ArePapers, AreReviewers, ArePairs, IsFirstFault}
 use Rattle.match_rules.specs.NextRows.{demand_below, IsNextPaper, IsNextReviewer, IsNextPair}
 use Rattle.match_rules.specs.Sums.{count_below}
@@ -96,7 +96,7 @@ reviewers-from_rows reviewers n h each =
           let at : r + 1 < n = rw len at below in
           rw (reviewer_in-take reviewers n r (omega arith), reviewer_in-take reviewers n (r + 1) at) ((each (r + 1) at).after r refl);
       loads = λ r below. let at : r < n = rw len at below in rw (reviewer_in-take reviewers n r at) (each r at).loads;
-      alone = λ r below. let at : r < n = rw len at below in rw (reviewer_in-take reviewers n r at) (each r at).alone;
+      institutions = λ r name below. let at : r < n = rw len at below in rw (reviewer_in-take reviewers n r at) ((each r at).institution name);
     }
 
 pub rows-from_reviewers : (reviewers : List RuleReviewer) (n : ℕ) → n ≤ length reviewers → AreReviewers (take n reviewers) → (r : ℕ) → r < n → IsNextReviewer reviewers r
@@ -106,7 +106,7 @@ rows-from_reviewers reviewers n h all r at =
     let few : length (take n reviewers) ≤ 1500 = all.few in
     let good : is_id (reviewer_in (take n reviewers) r).id ≡ true = all.ids r within in
     let loads : ((reviewer_in (take n reviewers) r).least ≤ (reviewer_in (take n reviewers) r).greatest) × ((reviewer_in (take n reviewers) r).greatest ≤ 1500) = all.loads r within in
-    let alone : (reviewer_in (take n reviewers) r).institution ≡ None = all.alone r within in
+    let named : (name : List ℕ) → (reviewer_in (take n reviewers) r).institution ≡ Some name → is_institution name ≡ true = λ name. all.institutions r name within in
     record {
       few = omega arith;
       id = rw (reviewer_in-take reviewers n r at) at good;
@@ -115,7 +115,7 @@ rows-from_reviewers reviewers n h all r at =
           let here : id_cmp (reviewer_in reviewers q).id (reviewer_in reviewers (q + 1)).id ≡ Less = rw (reviewer_in-take reviewers n q (omega arith), reviewer_in-take reviewers n (q + 1) (omega arith)) at now in
           rw next at here;
       loads = rw (reviewer_in-take reviewers n r at) at loads;
-      alone = rw (reviewer_in-take reviewers n r at) at alone;
+      institution = rw (reviewer_in-take reviewers n r at) at named;
     }
 
 -- the pairs

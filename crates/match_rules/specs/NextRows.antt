@@ -1,10 +1,10 @@
 -- What a row has to keep that follows rows which keep all conditions.
-use Rattle.std.specs.Prelude.{◌≡◌, ℕ, ◌+◌, ◌<◌, ◌≤◌, true, List, None}
+use Rattle.std.specs.Prelude.{◌≡◌, ℕ, ◌+◌, ◌<◌, ◌≤◌, true, List, Some}
 use Rattle.std.specs.declared.cmp.Ordering.TheVariants.{Less}
 use Rattle.match_rules.specs.declared.rules.RulePaper.{RulePaper}
 use Rattle.match_rules.specs.declared.rules.RuleReviewer.{RuleReviewer}
 use Rattle.match_rules.specs.declared.rules.RulePair.{RulePair}
-use Rattle.match_rules.specs.Id.{is_id}
+use Rattle.match_rules.specs.Id.{is_id, is_institution}
 use Rattle.match_rules.specs.Rules.{paper_in, reviewer_in, pair_in, id_cmp, IsPair, IsPairBefore}
 use Rattle.match_rules.specs.Sums.{count_below}
 
@@ -26,7 +26,7 @@ pub record IsNextReviewer (reviewers : List RuleReviewer) (r : ℕ) : Type 0 whe
   pub id : is_id (reviewer_in reviewers r).id ≡ true
   pub after : (q : ℕ) → q + 1 ≡ r → id_cmp (reviewer_in reviewers q).id (reviewer_in reviewers r).id ≡ Less
   pub loads : ((reviewer_in reviewers r).least ≤ (reviewer_in reviewers r).greatest) × ((reviewer_in reviewers r).greatest ≤ 1500)
-  pub alone : (reviewer_in reviewers r).institution ≡ None
+  pub institution : (name : List ℕ) → (reviewer_in reviewers r).institution ≡ Some name → is_institution name ≡ true
 
 -- the pair at a place
 pub record IsNextPair (papers reviewers : ℕ) (pairs : List RulePair) (e : ℕ) : Type 0 where

@@ -208,12 +208,33 @@ fn first_pairs(alloc: Global, groups: &[Option<u32>], count: usize) -> Result<Ve
     Ok(firsts)
 }
 
+/// A group: a paper and an institution that has a candidate for it.
+#[derive(Clone, Copy)]
+pub struct Group {
+    /// The place of the paper.
+    pub paper: u32,
+    /// The place of the first reviewer of the institution who has a pair with
+    /// the paper.
+    pub reviewer: u32,
+}
+
 /// The groups of rules: the group of each pair, and the first pair of each
 /// group.
 #[derive(Drop)]
 pub(crate) struct GroupTable {
     pub(crate) of_pair: Vec<Option<u32>>,
     pub(crate) firsts: Vec<u32>,
+}
+
+impl GroupTable {
+    pub(crate) fn copy(&self, alloc: Global) -> Result<Self, AllocError>
+        ensures of_pair { IfOk result (λ copy. copy.of_pair.items ≡ self.now.of_pair.items) }
+        ensures firsts { IfOk result (λ copy. copy.firsts.items ≡ self.now.firsts.items) }
+    {
+        let of_pair = Vec::from_slice(alloc, self.of_pair.as_slice())?;
+        let firsts = Vec::from_slice(alloc, self.firsts.as_slice())?;
+        Ok(GroupTable { of_pair, firsts })
+    }
 }
 
 // The group of each pair and the first pair of each group, by the numbers of

@@ -19,6 +19,7 @@ pub use breaks::Break;
 pub use examples::{
     worked_breaks, worked_cuts, worked_groups, worked_ids, worked_sieves, worked_totals,
 };
+pub use groups::Group;
 pub use ids::{IdFault, Institution, PaperId, ReviewerId};
 pub use lists::{Places, PriceList, Shares};
 pub use lottery::{Lottery, Piece};

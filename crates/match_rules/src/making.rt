@@ -4,6 +4,7 @@ ghost use Rattle.std.specs.Prelude.{◌≡◌, ◌≤◌, [], length, IfOk, OnOk
 ghost use Rattle.match_rules.specs.Rules.{AreRules, locked_places, rules_value};
 ghost use Rattle.match_rules.specs.RulesFaults.{IsFaultOf};
 
+use crate::groups::group_table;
 use crate::parts::{pair_fault, paper_fault, reviewer_fault};
 use crate::rules::{MOST_TICKETS, RulePair, RulePaper, RuleReviewer, Rules, RulesFault};
 use std::alloc::{AllocError, Global};
@@ -72,6 +73,7 @@ impl Rules {
         ensures { IfOk result (λ rules. rules ≡ rules_value limit papers.items reviewers.items pairs.items) }
     {
         let locked = locked_of(alloc, pairs.as_slice())?;
-        Ok(Rules::of_parts(limit, papers, reviewers, pairs, locked))
+        let groups = group_table(alloc, reviewers.as_slice(), pairs.as_slice())?;
+        Ok(Rules::of_parts(limit, papers, reviewers, pairs, locked, groups))
     }
 }

@@ -2,7 +2,6 @@
 
 ghost use Rattle.std.specs.Prelude.{◌≡◌, ◌↔◌, ◌<◌, ◌≤◌, All, IsTrue, length};
 ghost use Rattle.match_rules.specs.Answers.{IsWithin, most_price, most_total, ArePrices, AreMarks, CutMatches, LevelMatches, SharesMatch, LotteryMatches, PricesMatch, WinningMatches, AnswerMatches};
-ghost use Rattle.match_rules.specs.Groups.{group_count};
 ghost use Rattle.match_rules.specs.Rules.{most_score};
 
 use crate::answer::{Answer, Cut, Level, Prices, Winning};
@@ -16,14 +15,6 @@ const MOST_SCORE: i64 = 8_000_000_000;
 const MOST_PRICE: i64 = 10_000_000_000_000_000;
 
 const MOST_TOTAL: i128 = 1_000_000_000_000_000_000;
-
-// No reviewer has an institution yet, so there are no groups.
-fn count_groups(rules: &Rules) -> usize
-    ensures { result ≡ group_count rules.now }
-{
-    let _limit = rules.limit();
-    0
-}
 
 fn are_below(count: usize, places: &[u32]) -> bool
     ensures { IsTrue result ↔ All (λ place. place < count) places.now }
@@ -46,7 +37,7 @@ fn cut_matches(rules: &Rules, cut: &Cut) -> bool
     if !are_marks(rules.papers().len(), &cut.papers) {
         return false;
     }
-    if !are_marks(count_groups(rules), &cut.groups) {
+    if !are_marks(rules.group_count() as usize, &cut.groups) {
         return false;
     }
     are_marks(rules.reviewers().len(), &cut.reviewers)
@@ -107,7 +98,7 @@ fn prices_match(rules: &Rules, prices: &Prices) -> bool
     if !are_prices(rules.papers().len(), &prices.papers) {
         return false;
     }
-    if !are_prices(count_groups(rules), &prices.groups) {
+    if !are_prices(rules.group_count() as usize, &prices.groups) {
         return false;
     }
     are_prices(rules.reviewers().len(), &prices.reviewers)

@@ -1,6 +1,7 @@
 // The first place at which papers, reviewers or pairs break a condition.
 
-ghost use Rattle.std.specs.Prelude.{◌≡◌, ◌+◌, ◌<◌, ◌≤◌, ◌↔◌, length, take, IsTrue, IfSome, IsNone};
+ghost use Rattle.std.specs.Prelude.{◌≡◌, ◌+◌, ◌<◌, ◌≤◌, ◌↔◌, length, take, IsTrue, IfSome, IsNone, ℕ, List, Some, true};
+ghost use Rattle.match_rules.specs.Id.{is_institution};
 ghost use Rattle.match_rules.specs.Rules.{ArePapers, AreReviewers, ArePairs, IsPair, IsPairBefore, IsFirstFault};
 ghost use Rattle.match_rules.specs.NextRows.{demand_below, IsNextPaper, IsNextReviewer, IsNextPair};
 
@@ -64,6 +65,15 @@ fn has_loads(reviewer: &RuleReviewer) -> bool
     reviewer.least <= reviewer.greatest && reviewer.greatest <= MOST_LOAD
 }
 
+// What was read as the name of an institution is one.
+fn read_institution(reviewer: &RuleReviewer)
+    ensures { (name : List ℕ) → reviewer.now.institution ≡ Some name → is_institution name ≡ true }
+{
+    if let Some(name) = &reviewer.institution {
+        let _text = name.text();
+    }
+}
+
 // Whether a reviewer may follow the reviewers before.
 fn is_next_reviewer(reviewers: &[RuleReviewer], r: usize) -> bool
     requires { r < length reviewers.now }
@@ -72,13 +82,11 @@ fn is_next_reviewer(reviewers: &[RuleReviewer], r: usize) -> bool
     let reviewer = &reviewers[r];
     // What was read as an id is one.
     let _text = reviewer.id.text();
+    read_institution(reviewer);
     if r >= MOST_ROWS {
         return false;
     }
     if !has_loads(reviewer) {
-        return false;
-    }
-    if reviewer.institution.is_some() {
         return false;
     }
     if r == 0 {

@@ -1,8 +1,11 @@
 // The rules of one edition: papers, reviewers and candidate pairs.
 
-ghost use Rattle.std.specs.Prelude.{◌≡◌, length, IfOk};
-ghost use Rattle.match_rules.specs.Rules.{RulesValue, AreRules, locked_places, rules_value};
+ghost use Rattle.std.specs.Prelude.{◌≡◌, ◌↔◌, ◌<◌, ◌≤◌, length, IfOk, IfSome, IsNone, None, Some};
+ghost use Rattle.match_rules.specs.Groups.{group_count, group_of, group_key, first_member, paper_of_group};
+ghost use Rattle.match_rules.specs.GroupTable.{IsGroupTable};
+ghost use Rattle.match_rules.specs.Rules.{RulesValue, AreRules, locked_places, pair_at, reviewer_at, rules_value};
 
+use crate::groups::{Group, GroupTable};
 use crate::ids::{Institution, PaperId, ReviewerId};
 use std::alloc::{AllocError, Global};
 use std::marker::Model;
@@ -89,10 +92,12 @@ pub struct Rules {
     reviewers: Vec<RuleReviewer>,
     pairs: Vec<RulePair>,
     locked: Vec<u32>,
+    groups: GroupTable,
 }
 
 impl Model for Rules {
     ghost use Rattle.std.specs.Prelude.{◌≡◌};
+    ghost use Rattle.match_rules.specs.GroupTable.{IsGroupTable};
     ghost use Rattle.match_rules.specs.Rules.{RulesValue, AreRules, locked_places};
 
     ghost Value = { RulesValue };
@@ -100,7 +105,8 @@ impl Model for Rules {
     ghost view = { λ r. record { tickets = r.tickets; limit = r.limit; papers = r.papers.items; reviewers = r.reviewers.items; pairs = r.pairs.items } };
 
     ghost invariant = { λ r. AreRules (record { tickets = r.tickets; limit = r.limit; papers = r.papers.items; reviewers = r.reviewers.items; pairs = r.pairs.items })
-        × (r.locked.items ≡ locked_places (record { tickets = r.tickets; limit = r.limit; papers = r.papers.items; reviewers = r.reviewers.items; pairs = r.pairs.items })) };
+        × (r.locked.items ≡ locked_places (record { tickets = r.tickets; limit = r.limit; papers = r.papers.items; reviewers = r.reviewers.items; pairs = r.pairs.items }))
+        × IsGroupTable (record { tickets = r.tickets; limit = r.limit; papers = r.papers.items; reviewers = r.reviewers.items; pairs = r.pairs.items }) r.groups.of_pair.items r.groups.firsts.items };
 }
 
 /// Why rules were refused: the first part, in the order limit, papers,
@@ -120,16 +126,19 @@ pub enum RulesFault {
 }
 
 impl Rules {
-    // The rules of a limit and three lists, with the places of the locked pairs.
+    // The rules of a limit and three lists, with the places of the locked pairs
+    // and the groups.
     pub(crate) fn of_parts(
         limit: u32,
         papers: Vec<RulePaper>,
         reviewers: Vec<RuleReviewer>,
         pairs: Vec<RulePair>,
         locked: Vec<u32>,
+        groups: GroupTable,
     ) -> Rules
         requires rules { AreRules (rules_value limit papers.items reviewers.items pairs.items) }
         requires locked { locked.items ≡ locked_places (rules_value limit papers.items reviewers.items pairs.items) }
+        requires groups { IsGroupTable (rules_value limit papers.items reviewers.items pairs.items) groups.of_pair.items groups.firsts.items }
         ensures { result ≡ rules_value limit papers.items reviewers.items pairs.items }
     {
         Rules {
@@ -139,6 +148,7 @@ impl Rules {
             reviewers,
             pairs,
             locked,
+            groups,
         }
     }
 
@@ -194,6 +204,43 @@ impl Rules {
         self.locked.as_slice()
     }
 
+    /// The number of groups. A group is a paper and an institution, of which a
+    /// reviewer has a pair with the paper; groups ascend by the place of the
+    /// paper and then the bytes of the institution.
+    pub fn group_count(&self) -> u32
+        ensures value { result ≡ group_count self.now }
+        ensures few { result ≤ length self.now.pairs }
+        ensures kept { AreRules self.now }
+    {
+        self.groups.firsts.len() as u32
+    }
+
+    /// The group of a pair, where its reviewer has an institution.
+    pub fn group_of(&self, pair: u32) -> Option<u32>
+        requires { pair < length self.now.pairs }
+        ensures value { result ≡ group_of self.now pair }
+        ensures below { IfSome result (λ group. group < group_count self.now) }
+        ensures paper { IfSome result (λ group. paper_of_group self.now group ≡ (pair_at self.now pair).paper) }
+        ensures none { IsNone result ↔ ((reviewer_at self.now (pair_at self.now pair).reviewer).institution ≡ None) }
+    {
+        self.groups.of_pair[pair as usize]
+    }
+
+    /// The paper of a group, and the first reviewer of its institution who has
+    /// a pair with the paper.
+    pub fn group_at(&self, group: u32) -> Group
+        requires { group < group_count self.now }
+        ensures paper { result.paper ≡ paper_of_group self.now group }
+        ensures reviewer { Some result.reviewer ≡ first_member self.now (group_key self.now group) }
+    {
+        let first = self.groups.firsts[group as usize];
+        let pair = self.pairs[first as usize];
+        Group {
+            paper: pair.paper,
+            reviewer: pair.reviewer,
+        }
+    }
+
     /// Equal rules.
     pub fn copy(&self, alloc: Global) -> Result<Self, AllocError>
         ensures { IfOk result (λ copy. copy ≡ self.now) }
@@ -202,6 +249,7 @@ impl Rules {
         let reviewers = copy_reviewers(alloc, self.reviewers.as_slice())?;
         let pairs = Vec::from_slice(alloc, self.pairs.as_slice())?;
         let locked = Vec::from_slice(alloc, self.locked.as_slice())?;
+        let groups = self.groups.copy(alloc)?;
         Ok(Rules {
             tickets: self.tickets,
             limit: self.limit,
@@ -209,6 +257,7 @@ impl Rules {
             reviewers,
             pairs,
             locked,
+            groups,
         })
     }
 }
