@@ -8,6 +8,7 @@ use Rattle.std.specs.List.Sorted.{IsStrictlySortedBy}
 use Rattle.std.proofs.lemmas.Cmp.{nat_cmp_total, nat_list_cmp_total, on_total, then_total, ranked}
 use Rattle.std.proofs.lemmas.Map.Lookups.{exact_bytes}
 use Rattle.match_rules.specs.Rules.{id_cmp}
+use Rattle.match_rules.proofs.Ascending.{IsIn}
 use Rattle.match_rules.specs.Groups.{GroupKey, key_cmp, put_key}
 
 by_paper_then : (r s : Ordering) → ordering_then r s ≡ match_ordering r Less s Greater
@@ -72,11 +73,6 @@ sorted_put new (key ∷ keys) s =
     (λ e. s)
     (λ e. (all_put (λ y. key_cmp key y ≡ Less) new keys (turned new key e) s.0, sorted_put new keys s.1))
 
--- the key stands in the list
-abbrev pub IsIn : GroupKey → List GroupKey → Type 0
-IsIn key [] = ⊥
-IsIn key (first ∷ keys) = (first ≡ key) ⊎ IsIn key keys
-
 -- the new key stands in the longer list
 pub new_in_put : (new : GroupKey) (keys : List GroupKey) → IsIn new (put_key new keys)
 new_in_put new [] = inl refl
@@ -109,16 +105,3 @@ length_put new [] = omega arith
 length_put new (key ∷ keys) =
     let rest = length_put new keys in
     at_put (λ list. length list ≤ length (key ∷ keys) + 1) new key keys (λ e. omega arith) (λ e. omega arith) (λ e. omega arith)
-
--- where a key stands
-pub place_of_key : (key default : GroupKey) (keys : List GroupKey) → IsIn key keys → (g : ℕ) × (g < length keys) × (get_or keys g default ≡ key)
-place_of_key key default [] h = absurd h
-place_of_key key default (first ∷ keys) (inl e) = (0, omega arith, e)
-place_of_key key default (first ∷ keys) (inr h) =
-    let rest = place_of_key key default keys h in
-    (suc rest.0, omega (arith, rest.1), rest.2)
-
-pub key_at_place : (default : GroupKey) (keys : List GroupKey) (g : ℕ) → g < length keys → IsIn (get_or keys g default) keys
-key_at_place default [] g h = absurd (omega arith)
-key_at_place default (first ∷ keys) zero h = inl refl
-key_at_place default (first ∷ keys) (suc g) h = inr (key_at_place default keys g (omega arith))

@@ -1,10 +1,10 @@
 -- The laws of groups: they ascend, each is the key of a pair, and each pair that has a key is in the group of its key.
-use Rattle.std.proofs.Common.{◌≡◌, ℕ, zero, suc, ◌+◌, ◌<◌, ◌≤◌, ◌⊎◌, inl, inr, Bool, true, false, ltb, List, length, get_or, Option, Some, None, Ordering, refl, sym, ap, ◌∙◌, subst, arith}
+use Rattle.std.proofs.Common.{◌≡◌, ◌↔◌, ℕ, zero, suc, ◌+◌, ◌<◌, ◌≤◌, ◌⊎◌, inl, inr, Bool, true, false, ltb, List, length, get_or, Option, Some, None, Ordering, refl, sym, ap, ◌∙◌, subst, arith}
 use Rattle.std.specs.declared.cmp.Ordering.TheVariants.{Less, Equal, Greater}
 use Rattle.std.specs.Ordering.{ordering_reverse, is_eq}
 use Rattle.std.specs.List.{position, position_or_len}
 use Rattle.std.specs.List.Sorted.{IsStrictlySortedBy}
-use Rattle.std.specs.Option.{option_map}
+use Rattle.std.specs.Option.{option_map, option_map_or, option_and_then, IfSome, IsNone}
 use Rattle.std.proofs.lemmas.Bool.{cases_lt}
 use Rattle.std.proofs.lemmas.Bool.Decides.{nat_tests}
 use Rattle.std.proofs.lemmas.Cmp.{tied_itself}
@@ -13,8 +13,10 @@ use Rattle.std.proofs.lemmas.List.Sums.{position_or_len_is}
 use Rattle.std.proofs.lemmas.Map.Keys.{Less-from_sorted}
 use Rattle.std.proofs.lemmas.Option.{same_Some, option_and_then_some}
 use Rattle.match_rules.specs.Rules.{RulesValue, pair_at, reviewer_at}
-use Rattle.match_rules.specs.Groups.{GroupKey, key_cmp, same_key, key_of, put_key, put_some, keys_below, groups, group_count, group_of, no_key, group_key, paper_of_group}
-use Rattle.match_rules.proofs.GroupKeys.{key_cmp_total, same_keys, sorted_put, IsIn, new_in_put, old_in_put, in_put_cases, length_put, place_of_key, key_at_place}
+use Rattle.match_rules.specs.Groups.{GroupKey, key_cmp, same_key, key_of, put_key, put_some, keys_below, groups, group_count, group_of, has_key, member, first_member, no_key, group_key, paper_of_group}
+use Rattle.match_rules.proofs.GroupKeys.{key_cmp_total, same_keys, sorted_put, new_in_put, old_in_put, in_put_cases, length_put}
+use Rattle.match_rules.proofs.Firsts.{first_below-found, first_below-all}
+use Rattle.match_rules.proofs.Ascending.{IsIn, place_of_item, item_at_place, place_in_sorted}
 
 tied_by_test : (r : Ordering) → is_eq r ≡ true → r ≡ Equal
 tied_by_test Less t = absurd (cc t)
@@ -98,22 +100,11 @@ group_count_few rules = few_below rules (length rules.pairs)
 
 -- ---- the place of a key among those that ascend
 
-same_as_itself : (key : GroupKey) → same_key key key ≡ true
-same_as_itself key = ap is_eq (tied_itself key_cmp_total key)
-
-other_than_lower : (low high : GroupKey) → key_cmp low high ≡ Less → same_key high low ≡ false
-other_than_lower low high e = ap is_eq (key_cmp_total.antisymm high low ∙ ap ordering_reverse e)
-
 found_at : {X : Type 0} (p : X → Bool) (xs : List X) (g : ℕ) → g < length xs → position_or_len p xs ≡ g → position p xs ≡ Some g
 found_at p xs g h e = let yes : ltb g (length xs) ≡ true = grind (arith, nat_tests) in rw e (rw yes refl)
 
 pub place_is : (keys : List GroupKey) (g : ℕ) → IsStrictlySortedBy key_cmp keys → g < length keys → position (same_key (get_or keys g no_key)) keys ≡ Some g
-place_is keys g s h =
-    let key = get_or keys g no_key in
-    found_at (same_key key) keys g h
-    (position_or_len_is (same_key key) keys g no_key (omega arith)
-    (λ k below. other_than_lower (get_or keys k no_key) key (Less-from_sorted key_cmp keys k g no_key s below h))
-    (λ within. same_as_itself key))
+place_is keys g s h = found_at (same_key (get_or keys g no_key)) keys g h (place_in_sorted key_cmp_total keys g no_key s h)
 
 -- ---- the group of a pair
 
@@ -163,13 +154,13 @@ group_of_is rules e g h k = rw k (place_is (groups rules) g (groups_ascend rules
 pub group_of_some : (rules : RulesValue) (e : ℕ) (key : GroupKey) → e < length rules.pairs → key_of rules e ≡ Some key
     → (g : ℕ) × (g < group_count rules) × (group_of rules e ≡ Some g) × (group_key rules g ≡ key)
 group_of_some rules e key h k =
-    let at = place_of_key key no_key (groups rules) (key_in_groups rules e key h k) in
+    let at = place_of_item key no_key (groups rules) (key_in_groups rules e key h k) in
     (at.0, at.1, group_of_is rules e at.0 at.1 (k ∙ ap (λ x. Some x) (sym at.2)), at.2)
 
 -- no group is without a pair
 pub group_has_pair : (rules : RulesValue) (g : ℕ) → g < group_count rules → (e : ℕ) × (e < length rules.pairs) × (group_of rules e ≡ Some g)
 group_has_pair rules g h =
-    let found = pair_of_group rules (group_key rules g) (key_at_place no_key (groups rules) g h) in
+    let found = pair_of_group rules (group_key rules g) (item_at_place no_key (groups rules) g h) in
     (found.0, found.1, group_of_is rules found.0 g h found.2)
 
 -- a pair is in no group exactly where its reviewer has no institution
@@ -187,3 +178,52 @@ group_of_none rules e h none = by (reviewer_at rules (pair_at rules e).reviewer)
         let has : key_of rules e ≡ Some key = rw is refl in
         let found = group_of_some rules e key h has in
         absurd (cc (none, found.2))
+
+-- ---- what a pair's group says, as clauses
+
+pub is_below : (rules : RulesValue) (e : ℕ) (group : Option ℕ) → group ≡ group_of rules e → IfSome group (λ g. g < group_count rules)
+is_below rules e None is = tt
+is_below rules e (Some g) is = group_of_below rules e g (sym is)
+
+pub is_of_paper : (rules : RulesValue) (e : ℕ) (group : Option ℕ) → group ≡ group_of rules e → IfSome group (λ g. paper_of_group rules g ≡ (pair_at rules e).paper)
+is_of_paper rules e None is = tt
+is_of_paper rules e (Some g) is = group_of_paper rules e g (sym is)
+
+-- ---- the first member
+
+not_same : (a b : GroupKey) → ¬ (a ≡ b) → same_key a b ≡ false
+not_same a b differs = by (key_cmp a b) refl
+  where
+    by : (r : Ordering) → key_cmp a b ≡ r → is_eq r ≡ false
+    by Less e = refl
+    by Equal e = absurd (differs (same_keys a b e))
+    by Greater e = refl
+
+has_key-not : (rules : RulesValue) (g e : ℕ) (key : Option GroupKey) → key ≡ key_of rules e → ¬ (key_of rules e ≡ Some (group_key rules g)) → option_map_or (same_key (group_key rules g)) key false ≡ false
+has_key-not rules g e None is other = refl
+has_key-not rules g e (Some key) is other = not_same (group_key rules g) key (λ same. other (sym is ∙ ap (λ k. Some k) (sym same)))
+
+-- a pair of another group is none of its members
+pub member-none : (rules : RulesValue) (g e : ℕ) → g < group_count rules → ¬ (group_of rules e ≡ Some g) → member rules (group_key rules g) e ≡ None
+member-none rules g e h other =
+    let no : has_key rules (group_key rules g) e ≡ false = has_key-not rules g e (key_of rules e) refl (λ k. other (group_of_is rules e g h k)) in
+    rw no refl
+
+-- a pair of the group has a member
+pub member-some : (rules : RulesValue) (g e : ℕ) → group_of rules e ≡ Some g → member rules (group_key rules g) e ≡ Some (pair_at rules e).reviewer
+member-some rules g e h =
+    let yes : has_key rules (group_key rules g) e ≡ true =
+    ap (λ key. option_map_or (same_key (group_key rules g)) key false) (group_of_key rules e g h) ∙ ap is_eq (tied_itself key_cmp_total (group_key rules g)) in
+    rw yes refl
+
+-- the reviewer of the first pair of a group is its first member
+pub first_member_is : (rules : RulesValue) (g e : ℕ) → g < group_count rules → e < length rules.pairs → group_of rules e ≡ Some g
+    → ((k : ℕ) → k < e → ¬ (group_of rules k ≡ Some g)) → first_member rules (group_key rules g) ≡ Some (pair_at rules e).reviewer
+first_member_is rules g e h within is before =
+    first_below-found (length rules.pairs) e (member rules (group_key rules g)) (pair_at rules e).reviewer within
+    (first_below-all e (member rules (group_key rules g)) (λ k low. member-none rules g k h (before k low)))
+    (member-some rules g e is)
+
+pub is_none_where : (rules : RulesValue) (e : ℕ) (group : Option ℕ) → e < length rules.pairs → group ≡ group_of rules e → IsNone group ↔ ((reviewer_at rules (pair_at rules e).reviewer).institution ≡ None)
+is_none_where rules e None h is = (λ none. group_of_none rules e h (sym is), λ nothing. refl)
+is_none_where rules e (Some g) h is = (λ none. absurd (cc none), λ nothing. absurd (cc (is, none_group_of rules e nothing)))

@@ -1,3 +1,11 @@
+pub mod Ascending
+pub mod Firsts
+pub mod Fronts
+pub mod GroupCodes
+pub mod GroupFirsts
 pub mod GroupKeys
 pub mod GroupLaws
 pub mod IdLaws
+pub mod Locked
+pub mod Names
+pub mod Numbers

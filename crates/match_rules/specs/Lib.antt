@@ -2,9 +2,12 @@ pub mod Answers
 pub mod Assignments
 pub mod Breaks
 pub mod Evidence
+pub mod Examples
 pub mod First
+pub mod GroupTable
 pub mod Groups
 pub mod Id
+pub mod NextRows
 pub mod Pieces
 pub mod Plain
 pub mod Rules

@@ -71,14 +71,14 @@ pub record ArePapers (papers : List RulePaper) : Type 0 where
   pub demands : (p : ℕ) → p < length papers → (paper_in papers p).demand ≤ 100
   pub in_all : demand_total papers ≤ 4500
 
--- at most 1,500 reviewers with ids that strictly ascend, each with a least load of at most the greatest, which is at
--- most 1,500; none has an institution yet
+-- at most 1,500 reviewers with ids that strictly ascend, each with the name of an institution or none, and with a least
+-- load of at most the greatest, which is at most 1,500
 pub record AreReviewers (reviewers : List RuleReviewer) : Type 0 where
   pub few : length reviewers ≤ 1500
   pub ids : (r : ℕ) → r < length reviewers → is_id (reviewer_in reviewers r).id ≡ true
   pub ascending : (r : ℕ) → r + 1 < length reviewers → id_cmp (reviewer_in reviewers r).id (reviewer_in reviewers (r + 1)).id ≡ Less
   pub loads : (r : ℕ) → r < length reviewers → ((reviewer_in reviewers r).least ≤ (reviewer_in reviewers r).greatest) × ((reviewer_in reviewers r).greatest ≤ 1500)
-  pub alone : (r : ℕ) → r < length reviewers → (reviewer_in reviewers r).institution ≡ None
+  pub institutions : (r : ℕ) (name : List ℕ) → r < length reviewers → (reviewer_in reviewers r).institution ≡ Some name → is_institution name ≡ true
 
 -- the greatest magnitude of a score
 abbrev pub most_score : ℕ

@@ -1,7 +1,10 @@
 // Answers to rules: a lottery with its evidence, or a cut that forbids all.
 
+ghost use Rattle.std.specs.Prelude.{◌≡◌, IfOk};
+
 use crate::lists::{Places, PriceList, Shares};
 use crate::lottery::Lottery;
+use std::alloc::{AllocError, Global};
 
 /// What was asked for.
 #[derive(Debug, Clone, Copy, PartialEq, Eq)]
@@ -52,6 +55,23 @@ pub struct Cut {
     pub reviewers: Places,
 }
 
+impl Cut {
+    /// An equal cut.
+    pub fn copy(&self, alloc: Global) -> Result<Self, AllocError>
+        ensures { IfOk result (λ copy. copy ≡ self.now) }
+    {
+        let papers = self.papers.copy(alloc)?;
+        let groups = self.groups.copy(alloc)?;
+        let reviewers = self.reviewers.copy(alloc)?;
+        Ok(Cut {
+            side: self.side,
+            papers,
+            groups,
+            reviewers,
+        })
+    }
+}
+
 /// The greatest feasible score threshold of the fair mode.
 #[derive(Drop)]
 pub enum Level {
@@ -68,6 +88,22 @@ pub enum Level {
     },
 }
 
+impl Level {
+    /// An equal level.
+    pub fn copy(&self, alloc: Global) -> Result<Self, AllocError>
+        ensures { IfOk result (λ copy. copy ≡ self.now) }
+    {
+        match self {
+            Level::Unasked => Ok(Level::Unasked),
+            Level::Free => Ok(Level::Free),
+            Level::At { score, cut } => {
+                let cut = cut.copy(alloc)?;
+                Ok(Level::At { score: *score, cut })
+            }
+        }
+    }
+}
+
 /// A price for each paper, group and reviewer, in 10^-6 of a score.
 #[derive(Drop)]
 pub struct Prices {
@@ -77,6 +113,22 @@ pub struct Prices {
     pub groups: PriceList,
     /// By the places of the reviewers.
     pub reviewers: PriceList,
+}
+
+impl Prices {
+    /// Equal prices.
+    pub fn copy(&self, alloc: Global) -> Result<Self, AllocError>
+        ensures { IfOk result (λ copy. copy ≡ self.now) }
+    {
+        let papers = self.papers.copy(alloc)?;
+        let groups = self.groups.copy(alloc)?;
+        let reviewers = self.reviewers.copy(alloc)?;
+        Ok(Prices {
+            papers,
+            groups,
+            reviewers,
+        })
+    }
 }
 
 /// A lottery with the evidence that it is best.
@@ -96,6 +148,26 @@ pub struct Winning {
     pub lottery: Lottery,
 }
 
+impl Winning {
+    /// An equal lottery with its evidence.
+    pub fn copy(&self, alloc: Global) -> Result<Self, AllocError>
+        ensures { IfOk result (λ copy. copy ≡ self.now) }
+    {
+        let level = self.level.copy(alloc)?;
+        let prices = self.prices.copy(alloc)?;
+        let shares = self.shares.copy(alloc)?;
+        let lottery = self.lottery.copy(alloc)?;
+        Ok(Winning {
+            mode: self.mode,
+            level,
+            total: self.total,
+            prices,
+            shares,
+            lottery,
+        })
+    }
+}
+
 /// A cut that shows that no lottery fits.
 #[derive(Drop)]
 pub struct Blocked {
@@ -109,6 +181,21 @@ pub struct Blocked {
     pub room: u64,
 }
 
+impl Blocked {
+    /// An equal cut with its numbers.
+    pub fn copy(&self, alloc: Global) -> Result<Self, AllocError>
+        ensures { IfOk result (λ copy. copy ≡ self.now) }
+    {
+        let cut = self.cut.copy(alloc)?;
+        Ok(Blocked {
+            mode: self.mode,
+            cut,
+            need: self.need,
+            room: self.room,
+        })
+    }
+}
+
 /// The answer to rules.
 #[derive(Drop)]
 pub enum Answer {
@@ -116,4 +203,22 @@ pub enum Answer {
     Lottery(Winning),
     /// No lottery fits.
     Infeasible(Blocked),
+}
+
+impl Answer {
+    /// An equal answer.
+    pub fn copy(&self, alloc: Global) -> Result<Self, AllocError>
+        ensures { IfOk result (λ copy. copy ≡ self.now) }
+    {
+        match self {
+            Answer::Lottery(winning) => {
+                let winning = winning.copy(alloc)?;
+                Ok(Answer::Lottery(winning))
+            }
+            Answer::Infeasible(blocked) => {
+                let blocked = blocked.copy(alloc)?;
+                Ok(Answer::Infeasible(blocked))
+            }
+        }
+    }
 }

@@ -1,9 +1,13 @@
 // The rules of one edition: papers, reviewers and candidate pairs.
 
-ghost use Rattle.std.specs.Prelude.{◌≡◌, length};
-ghost use Rattle.match_rules.specs.Rules.{RulesValue, AreRules, locked_places};
+ghost use Rattle.std.specs.Prelude.{◌≡◌, ◌↔◌, ◌<◌, ◌≤◌, length, IfOk, IfSome, IsNone, None, Some};
+ghost use Rattle.match_rules.specs.Groups.{group_count, group_of, group_key, first_member, paper_of_group};
+ghost use Rattle.match_rules.specs.GroupTable.{IsGroupTable};
+ghost use Rattle.match_rules.specs.Rules.{RulesValue, AreRules, locked_places, pair_at, reviewer_at, rules_value};
 
+use crate::groups::{Group, GroupTable};
 use crate::ids::{Institution, PaperId, ReviewerId};
+use std::alloc::{AllocError, Global};
 use std::marker::Model;
 
 /// The greatest number of tickets that a lottery is split over.
@@ -18,6 +22,19 @@ pub struct RulePaper {
     pub demand: u32,
 }
 
+impl RulePaper {
+    /// An equal paper.
+    pub fn copy(&self, alloc: Global) -> Result<Self, AllocError>
+        ensures { IfOk result (λ copy. copy ≡ self.now) }
+    {
+        let id = self.id.copy(alloc)?;
+        Ok(RulePaper {
+            id,
+            demand: self.demand,
+        })
+    }
+}
+
 /// A reviewer with the numbers of papers that they may have in an assignment.
 #[derive(Drop)]
 pub struct RuleReviewer {
@@ -29,6 +46,25 @@ pub struct RuleReviewer {
     pub least: u32,
     /// The greatest number of papers in each assignment, up to 1,500.
     pub greatest: u32,
+}
+
+impl RuleReviewer {
+    /// An equal reviewer.
+    pub fn copy(&self, alloc: Global) -> Result<Self, AllocError>
+        ensures { IfOk result (λ copy. copy ≡ self.now) }
+    {
+        let id = self.id.copy(alloc)?;
+        let institution = match &self.institution {
+            Some(institution) => Some(institution.copy(alloc)?),
+            None => None,
+        };
+        Ok(RuleReviewer {
+            id,
+            institution,
+            least: self.least,
+            greatest: self.greatest,
+        })
+    }
 }
 
 /// A candidate pair of a paper and a reviewer.
@@ -56,10 +92,12 @@ pub struct Rules {
     reviewers: Vec<RuleReviewer>,
     pairs: Vec<RulePair>,
     locked: Vec<u32>,
+    groups: GroupTable,
 }
 
 impl Model for Rules {
     ghost use Rattle.std.specs.Prelude.{◌≡◌};
+    ghost use Rattle.match_rules.specs.GroupTable.{IsGroupTable};
     ghost use Rattle.match_rules.specs.Rules.{RulesValue, AreRules, locked_places};
 
     ghost Value = { RulesValue };
@@ -67,7 +105,8 @@ impl Model for Rules {
     ghost view = { λ r. record { tickets = r.tickets; limit = r.limit; papers = r.papers.items; reviewers = r.reviewers.items; pairs = r.pairs.items } };
 
     ghost invariant = { λ r. AreRules (record { tickets = r.tickets; limit = r.limit; papers = r.papers.items; reviewers = r.reviewers.items; pairs = r.pairs.items })
-        × (r.locked.items ≡ locked_places (record { tickets = r.tickets; limit = r.limit; papers = r.papers.items; reviewers = r.reviewers.items; pairs = r.pairs.items })) };
+        × (r.locked.items ≡ locked_places (record { tickets = r.tickets; limit = r.limit; papers = r.papers.items; reviewers = r.reviewers.items; pairs = r.pairs.items }))
+        × IsGroupTable (record { tickets = r.tickets; limit = r.limit; papers = r.papers.items; reviewers = r.reviewers.items; pairs = r.pairs.items }) r.groups.of_pair.items r.groups.firsts.items };
 }
 
 /// Why rules were refused: the first part, in the order limit, papers,
@@ -87,6 +126,32 @@ pub enum RulesFault {
 }
 
 impl Rules {
+    // The rules of a limit and three lists, with the places of the locked pairs
+    // and the groups.
+    pub(crate) fn of_parts(
+        limit: u32,
+        papers: Vec<RulePaper>,
+        reviewers: Vec<RuleReviewer>,
+        pairs: Vec<RulePair>,
+        locked: Vec<u32>,
+        groups: GroupTable,
+    ) -> Rules
+        requires rules { AreRules (rules_value limit papers.items reviewers.items pairs.items) }
+        requires locked { locked.items ≡ locked_places (rules_value limit papers.items reviewers.items pairs.items) }
+        requires groups { IsGroupTable (rules_value limit papers.items reviewers.items pairs.items) groups.of_pair.items groups.firsts.items }
+        ensures { result ≡ rules_value limit papers.items reviewers.items pairs.items }
+    {
+        Rules {
+            tickets: MOST_TICKETS,
+            limit,
+            papers,
+            reviewers,
+            pairs,
+            locked,
+            groups,
+        }
+    }
+
     /// The number of tickets over which a lottery is split.
     pub fn tickets(&self) -> u32
         ensures value { result ≡ self.now.tickets }
@@ -138,4 +203,84 @@ impl Rules {
     {
         self.locked.as_slice()
     }
+
+    /// The number of groups. A group is a paper and an institution, of which a
+    /// reviewer has a pair with the paper; groups ascend by the place of the
+    /// paper and then the bytes of the institution.
+    pub fn group_count(&self) -> u32
+        ensures value { result ≡ group_count self.now }
+        ensures few { result ≤ length self.now.pairs }
+        ensures kept { AreRules self.now }
+    {
+        self.groups.firsts.len() as u32
+    }
+
+    /// The group of a pair, where its reviewer has an institution.
+    pub fn group_of(&self, pair: u32) -> Option<u32>
+        requires { pair < length self.now.pairs }
+        ensures value { result ≡ group_of self.now pair }
+        ensures below { IfSome result (λ group. group < group_count self.now) }
+        ensures paper { IfSome result (λ group. paper_of_group self.now group ≡ (pair_at self.now pair).paper) }
+        ensures none { IsNone result ↔ ((reviewer_at self.now (pair_at self.now pair).reviewer).institution ≡ None) }
+    {
+        self.groups.of_pair[pair as usize]
+    }
+
+    /// The paper of a group, and the first reviewer of its institution who has
+    /// a pair with the paper.
+    pub fn group_at(&self, group: u32) -> Group
+        requires { group < group_count self.now }
+        ensures paper { result.paper ≡ paper_of_group self.now group }
+        ensures reviewer { Some result.reviewer ≡ first_member self.now (group_key self.now group) }
+    {
+        let first = self.groups.firsts[group as usize];
+        let pair = self.pairs[first as usize];
+        Group {
+            paper: pair.paper,
+            reviewer: pair.reviewer,
+        }
+    }
+
+    /// Equal rules.
+    pub fn copy(&self, alloc: Global) -> Result<Self, AllocError>
+        ensures { IfOk result (λ copy. copy ≡ self.now) }
+    {
+        let papers = copy_papers(alloc, self.papers.as_slice())?;
+        let reviewers = copy_reviewers(alloc, self.reviewers.as_slice())?;
+        let pairs = Vec::from_slice(alloc, self.pairs.as_slice())?;
+        let locked = Vec::from_slice(alloc, self.locked.as_slice())?;
+        let groups = self.groups.copy(alloc)?;
+        Ok(Rules {
+            tickets: self.tickets,
+            limit: self.limit,
+            papers,
+            reviewers,
+            pairs,
+            locked,
+            groups,
+        })
+    }
+}
+
+fn copy_papers(alloc: Global, papers: &[RulePaper]) -> Result<Vec<RulePaper>, AllocError>
+    ensures { IfOk result (λ copies. copies.items ≡ papers.now) }
+{
+    let mut copies = Vec::new(alloc);
+    for paper in papers {
+        copies.push(paper.copy(alloc)?)?;
+    }
+    Ok(copies)
+}
+
+fn copy_reviewers(
+    alloc: Global,
+    reviewers: &[RuleReviewer],
+) -> Result<Vec<RuleReviewer>, AllocError>
+    ensures { IfOk result (λ copies. copies.items ≡ reviewers.now) }
+{
+    let mut copies = Vec::new(alloc);
+    for reviewer in reviewers {
+        copies.push(reviewer.copy(alloc)?)?;
+    }
+    Ok(copies)
 }
