@@ -9,3 +9,4 @@ pub mod Scaled
 pub mod ScaledLaws
 pub mod Small
 pub mod Sums
+pub mod Tallies

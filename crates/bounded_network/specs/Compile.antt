@@ -1,10 +1,13 @@
 -- The network of rules, whose circulations are the amounts within the bounds.
-use Rattle.std.specs.Prelude.{◌≡◌, ℕ, zero, suc, ◌+◌, List, [], ◌∷◌, ◌++◌, length, take, slice_index, pos}
+use Rattle.std.specs.Prelude.{◌≡◌, ℕ, zero, suc, ◌+◌, Bool, List, [], ◌∷◌, ◌++◌, length, take, slice_index, pos, neg_ℤ}
 use Rattle.std.specs.Option.{option_map_or}
+use Rattle.match_rules.specs.declared.answer.Sieve.{Sieve}
 use Rattle.match_rules.specs.Rules.{RulesValue, pair_at}
 use Rattle.match_rules.specs.Groups.{group_count, group_of, paper_of_group}
-use Rattle.match_rules.specs.SharesFit.{paper_shares, group_shares, reviewer_shares}
+use Rattle.match_rules.specs.SharesFit.{SharesFit, paper_shares, group_shares, reviewer_shares, shares_score}
 use Rattle.bounded_network.specs.declared.network.Arc.{Arc}
+use Rattle.bounded_network.specs.declared.spans.Amounts.{Amounts}
+use Rattle.bounded_network.specs.declared.spans.Amounts.TheVariants.{Tickets, Rounded}
 use Rattle.bounded_network.specs.Network.{NetworkValue, IsCirculation, AreViolated, flow_cost}
 use Rattle.bounded_network.specs.Spans.{Spans, AreWithin, amounts_cost}
 
@@ -100,3 +103,15 @@ pub record Compiles (rules : RulesValue) (spans : Spans) (net : NetworkValue) : 
   pub complete : (amounts : List ℕ) → AreWithin rules spans amounts → IsCirculation net (flow_of rules amounts)
   pub same : (amounts : List ℕ) → AreWithin rules spans amounts → amounts_in rules (flow_of rules amounts) ≡ amounts
   pub only : (flow : List ℕ) → IsCirculation net flow → flow ≡ flow_of rules (amounts_in rules flow)
+
+-- the circulations are exactly the shares that fit, and the cost of one is minus its score
+pub record AreShares (rules : RulesValue) (sieve : Sieve) (net : NetworkValue) : Type 0 where
+  pub fit : (flow : List ℕ) → IsCirculation net flow → SharesFit rules sieve (amounts_in rules flow)
+  pub score : (flow : List ℕ) → IsCirculation net flow → flow_cost net flow ≡ neg_ℤ (shares_score rules (amounts_in rules flow))
+  pub all : (shares : List ℕ) → SharesFit rules sieve shares → IsCirculation net (flow_of rules shares)
+
+-- what the network is for, by the kind of amounts: its circulations are the shares that fit; or, where amounts are
+-- rounded, there are always some, since no marks are violated
+abbrev pub Serves : RulesValue → Sieve → Amounts → NetworkValue → Type 0
+Serves rules sieve Tickets net = AreShares rules sieve net
+Serves rules sieve (Rounded shares left) net = (marks : List Bool) → ¬ (AreViolated net marks)

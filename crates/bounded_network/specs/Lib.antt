@@ -3,3 +3,4 @@ pub mod Compile
 pub mod Network
 pub mod Scaled
 pub mod Spans
+pub mod Totals

@@ -4,6 +4,7 @@
 mod limits;
 mod network;
 mod spans;
+mod totals;
 
 pub use network::{Arc, MAX_ARCS, MAX_COST, MAX_NODES, MAX_ROOM, Network};
 pub use spans::{Amounts, Span};
