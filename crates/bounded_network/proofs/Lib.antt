@@ -1,6 +1,7 @@
 pub mod Compiled
 pub mod Counts
 pub mod CutLaws
+pub mod Fitting
 pub mod Laws
 pub mod Nodes
 pub mod Parts

@@ -18,6 +18,7 @@ use Rattle.bounded_network.specs.declared.spans.Span.{Span}
 use Rattle.bounded_network.specs.Network.{IsNetwork, IsArc}
 use Rattle.bounded_network.specs.Spans.{Spans, rounded, ticket_spans, rounded_spans}
 use Rattle.bounded_network.specs.Compile.{network_of, node_count, hub, pair_arc, paper_arc, group_arc, reviewer_arc}
+use Rattle.bounded_network.specs.Totals.{AreWords}
 use Rattle.bounded_network.proofs.Sums.{count_below-at_most}
 use Rattle.bounded_network.proofs.Compiled.{arc_count, each_arc}
 use Rattle.bounded_network.proofs.Nodes.{tail-below, group-paper-below}
@@ -95,7 +96,7 @@ floor-under rules sieve e are lt =
         let same : (pair_at rules e).floor ≡ rules.tickets = all ∙ sym are.tickets in
         rw (eq-eqb (pair_at rules e).floor rules.tickets same) h
 
-when-at_most : (b : Bool) (x : ℕ) → when b x ≤ x
+pub when-at_most : (b : Bool) (x : ℕ) → when b x ≤ x
 when-at_most true x = omega arith
 when-at_most false x = omega arith
 
@@ -136,10 +137,6 @@ rounded-small left amount some few = record {
   ordered = omega arith;
   room = omega (arith, rounded-at_most left amount some);
 }
-
--- shares of 32 bits
-abbrev pub AreWords : List ℕ → Type 0
-AreWords shares = (e : ℕ) → slice_index shares e < 2 ^ 32
 
 pub sum-small : (rules : RulesValue) (shares : List ℕ) (test : ℕ → Bool) → AreRules rules → AreWords shares → shares_where rules shares test ≤ 2 ^ 50
 sum-small rules shares test are words =

@@ -1,6 +1,7 @@
 // Networks whose arcs carry an amount between a floor and a room, at a cost a unit, and the network of rules.
 #![tactic(auto)]
 
+mod compile;
 mod limits;
 mod network;
 mod spans;
