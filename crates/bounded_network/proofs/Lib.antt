@@ -8,6 +8,7 @@ pub mod Parts
 pub mod PriceLaws
 pub mod Scaled
 pub mod ScaledLaws
+pub mod Serving
 pub mod Small
 pub mod Sums
 pub mod Tallies

@@ -1,11 +1,15 @@
 // Networks whose arcs carry an amount between a floor and a room, at a cost a unit, and the network of rules.
 #![tactic(auto)]
 
-mod compile;
+mod arcs;
+mod bounds;
+mod compiling;
+mod layout;
 mod limits;
 mod network;
 mod spans;
 mod totals;
 
+pub use compiling::compile;
 pub use network::{Arc, MAX_ARCS, MAX_COST, MAX_NODES, MAX_ROOM, Network};
 pub use spans::{Amounts, Span};

@@ -1,56 +1,14 @@
-// The network of rules, whose circulations are the amounts within the bounds.
+// The bounds of pairs, papers, groups and reviewers.
 
-ghost use Rattle.std.specs.Prelude.{◌≡◌, ◌+◌, ◌*◌, ◌++◌, ◌==◌, ◌||◌, ◌<◌, ◌≤◌, length, IfOk};
+ghost use Rattle.std.specs.Prelude.{◌≡◌, ◌*◌, ◌==◌, ◌||◌, ◌<◌, ◌≤◌, length};
 ghost use Rattle.match_rules.specs.Assignments.{cap_under, lets_pass};
 ghost use Rattle.match_rules.specs.Groups.{group_count};
-ghost use Rattle.match_rules.specs.Plain.{Plain};
-ghost use Rattle.match_rules.specs.Rules.{AreRules, pair_at};
-ghost use Rattle.bounded_network.specs.Compile.{listed, group_node, reviewer_node, hub, tail_of, pair_arc, paper_arc, group_arc, reviewer_arc, network_of, Compiles, Serves};
 ghost use Rattle.bounded_network.specs.Spans.{rounded, spans_of, CanDivide};
 ghost use Rattle.bounded_network.specs.Totals.{AreTotals};
 
-use crate::network::{Arc, Network};
 use crate::spans::{Amounts, Span};
-use crate::totals::{Totals, totals_of};
+use crate::totals::Totals;
 use match_rules::{RulePair, Rules, Sieve};
-use std::alloc::{AllocError, Global};
-
-// The node of a group.
-pub fn group_node_of(rules: &Rules, group: u32) -> u32
-    requires { group < group_count rules.now }
-    ensures value { result ≡ group_node rules.now group }
-    ensures small { result < 253001 }
-{
-    rules.papers().len() as u32 + group
-}
-
-// The node of a reviewer.
-pub fn reviewer_node_of(rules: &Rules, reviewer: u32) -> u32
-    requires { reviewer < length rules.now.reviewers }
-    ensures value { result ≡ reviewer_node rules.now reviewer }
-    ensures small { result < 253001 }
-{
-    rules.papers().len() as u32 + rules.group_count() + reviewer
-}
-
-// The hub, which is the last node.
-pub fn hub_of(rules: &Rules) -> u32
-    ensures value { result ≡ hub rules.now }
-    ensures small { result < 253001 }
-{
-    rules.papers().len() as u32 + rules.group_count() + rules.reviewers().len() as u32
-}
-
-// The node that a pair's amount comes from.
-fn tail(rules: &Rules, e: u32) -> u32
-    requires { e < length rules.now.pairs }
-    ensures { result ≡ tail_of rules.now e }
-{
-    match rules.group_of(e) {
-        Some(group) => group_node_of(rules, group),
-        None => rules.pairs()[e as usize].paper,
-    }
-}
 
 // Whether the sieve keeps the pair.
 fn is_kept(rules: &Rules, sieve: Sieve, pair: RulePair) -> bool
@@ -101,7 +59,7 @@ fn all_tickets(rules: &Rules, times: u32) -> u64
 }
 
 // The bounds of a pair.
-fn pair_span(rules: &Rules, sieve: Sieve, amounts: Amounts, e: u32) -> Span
+pub fn pair_span(rules: &Rules, sieve: Sieve, amounts: Amounts, e: u32) -> Span
     requires divides { CanDivide rules.now amounts }
     requires within { e < length rules.now.pairs }
     ensures { result ≡ (spans_of rules.now sieve amounts.entry).pairs e }
@@ -118,7 +76,7 @@ fn pair_span(rules: &Rules, sieve: Sieve, amounts: Amounts, e: u32) -> Span
 }
 
 // The bounds of a paper.
-fn paper_span(rules: &Rules, sieve: Sieve, amounts: Amounts, totals: &Totals, p: u32) -> Span
+pub fn paper_span(rules: &Rules, sieve: Sieve, amounts: Amounts, totals: &Totals, p: u32) -> Span
     requires divides { CanDivide rules.now amounts }
     requires totals { AreTotals rules.now amounts totals.now }
     requires within { p < length rules.now.papers }
@@ -137,7 +95,7 @@ fn paper_span(rules: &Rules, sieve: Sieve, amounts: Amounts, totals: &Totals, p:
 }
 
 // The bounds of a group.
-fn group_span(rules: &Rules, sieve: Sieve, amounts: Amounts, totals: &Totals, g: u32) -> Span
+pub fn group_span(rules: &Rules, sieve: Sieve, amounts: Amounts, totals: &Totals, g: u32) -> Span
     requires divides { CanDivide rules.now amounts }
     requires totals { AreTotals rules.now amounts totals.now }
     requires within { g < group_count rules.now }
@@ -153,7 +111,7 @@ fn group_span(rules: &Rules, sieve: Sieve, amounts: Amounts, totals: &Totals, g:
 }
 
 // The bounds of a reviewer.
-fn reviewer_span(rules: &Rules, sieve: Sieve, amounts: Amounts, totals: &Totals, r: u32) -> Span
+pub fn reviewer_span(rules: &Rules, sieve: Sieve, amounts: Amounts, totals: &Totals, r: u32) -> Span
     requires divides { CanDivide rules.now amounts }
     requires totals { AreTotals rules.now amounts totals.now }
     requires within { r < length rules.now.reviewers }

@@ -1,6 +1,6 @@
 use Rattle.std.proofs.Common.{arith}
 use Rattle.match_rules.proofs.GroupLaws.{group_count_few}
-use Rattle.bounded_network.proofs.compile.group_node_of.Goals as goal
+use Rattle.bounded_network.proofs.layout.group_node_of.Goals as goal
 
 pub overflow_add-result : goal.overflow_add-result
 overflow_add-result c =

@@ -4,7 +4,7 @@ use Rattle.match_rules.specs.SharesFit.{paper_shares}
 use Rattle.bounded_network.specs.Spans.{rounded}
 use Rattle.bounded_network.specs.Totals.{AreSums}
 use Rattle.bounded_network.proofs.Parts.{length-listed, listed-at}
-use Rattle.bounded_network.proofs.compile.paper_span.Goals as goal
+use Rattle.bounded_network.proofs.bounds.paper_span.Goals as goal
 
 pub index-requires : goal.index-requires
 index-requires c =
