@@ -1,3 +1,4 @@
+pub mod BackLaws
 pub mod Compiled
 pub mod Counts
 pub mod CutLaws

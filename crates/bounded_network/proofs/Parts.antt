@@ -158,3 +158,7 @@ take-four k p g r a b c d =
     ∙ take-append-le k (listed k a) (listed p b) (omega arith)
     ∙ ap (λ n. take n (listed k a)) (sym l1)
     ∙ take-length (listed k a)
+
+-- one more entry
+pub listed-next : {X : Type 0} → (n : ℕ) (f : ℕ → X) → listed (n + 1) f ≡ listed n f ++ (f n ∷ [])
+listed-next n f = let e : n + 1 ≡ suc n = omega arith in rw e refl

@@ -2,6 +2,7 @@
 #![tactic(auto)]
 
 mod arcs;
+mod back;
 mod bounds;
 mod compiling;
 mod layout;
@@ -10,6 +11,7 @@ mod network;
 mod spans;
 mod totals;
 
+pub use back::{cut_of, prices_of, shares_of};
 pub use compiling::compile;
 pub use network::{Arc, MAX_ARCS, MAX_COST, MAX_NODES, MAX_ROOM, Network};
 pub use spans::{Amounts, Span};
