@@ -155,7 +155,7 @@ compiled-same rules spans amounts within =
     let front = take-four k (length rules.papers) (group_count rules) (length rules.reviewers) (slice_index amounts) (paper_shares rules amounts) (group_shares rules amounts) (reviewer_shares rules amounts) in
     let long = length-listed k (slice_index amounts) in
     front ∙ same_number_lists (listed k (slice_index amounts)) amounts (long ∙ sym within.long)
-      (λ e lt. listed-at k e (slice_index amounts) 0 (omega arith))
+    (λ e lt. listed-at k e (slice_index amounts) 0 (omega arith))
 
 compiled-only : (rules : RulesValue) (spans : Spans) → AreRules rules → (flow : List ℕ) → IsCirculation (network_of rules spans) flow → flow ≡ flow_of rules (amounts_in rules flow)
 compiled-only rules spans are flow round =
@@ -166,13 +166,13 @@ compiled-only rules spans are flow round =
     let amounts : List ℕ = amounts_in rules flow in
     let passes = passes-of_balanced rules spans flow are round.balanced in
     let long : length (flow_of rules amounts) ≡ ((k + ps) + gs) + rs =
-      length-four k ps gs rs (slice_index amounts) (paper_shares rules amounts) (group_shares rules amounts) (reviewer_shares rules amounts) in
+    length-four k ps gs rs (slice_index amounts) (paper_shares rules amounts) (group_shares rules amounts) (reviewer_shares rules amounts) in
     let at : (a : ℕ) → a < length (flow_of rules amounts) → slice_index flow a ≡ slice_index (flow_of rules amounts) a =
-      each-four k ps gs rs (slice_index amounts) (paper_shares rules amounts) (group_shares rules amounts) (reviewer_shares rules amounts) 0 (λ y a. slice_index flow a ≡ y)
-        (λ e lt. sym (amount-in rules flow e lt))
-        (λ p lt. passes.papers p lt ∙ sym (in-sums rules flow (λ e. (pair_at rules e).paper == p)))
-        (λ g lt. passes.of_groups g lt ∙ sym (in-sums rules flow (is_in_group rules g)))
-        (λ r lt. passes.reviewers r lt ∙ sym (in-sums rules flow (λ e. (pair_at rules e).reviewer == r))) in
+    each-four k ps gs rs (slice_index amounts) (paper_shares rules amounts) (group_shares rules amounts) (reviewer_shares rules amounts) 0 (λ y a. slice_index flow a ≡ y)
+    (λ e lt. sym (amount-in rules flow e lt))
+    (λ p lt. passes.papers p lt ∙ sym (in-sums rules flow (λ e. (pair_at rules e).paper == p)))
+    (λ g lt. passes.of_groups g lt ∙ sym (in-sums rules flow (is_in_group rules g)))
+    (λ r lt. passes.reviewers r lt ∙ sym (in-sums rules flow (λ e. (pair_at rules e).reviewer == r))) in
     same_number_lists flow (flow_of rules amounts) (round.long ∙ arc_count rules spans ∙ sym long) (λ a lt. at a (omega (arith, round.long, arc_count rules spans, long)))
 
 -- the network of rules compiles them, with any bounds

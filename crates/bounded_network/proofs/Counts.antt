@@ -27,42 +27,42 @@ none_there n v h x apart = count_below-zero n (λ i. when (h i == v) (x i)) (λ 
 pub one_there : (n base v : ℕ) (x : ℕ → ℕ) → v < n → count_below n (λ i. when ((base + i) == (base + v)) (x i)) ≡ x v
 one_there zero base v x lt = absurd (omega arith)
 one_there (suc n) base v x lt = elim (cases_eq v n) [
-    inl e ↦
+  | inl e ↦
       let before : count_below n (λ i. when ((base + i) == (base + v)) (x i)) ≡ 0 =
-        none_there n (base + v) (λ i. base + i) x (λ i b q. absurd (omega arith)) in
+      none_there n (base + v) (λ i. base + i) x (λ i b q. absurd (omega arith)) in
       let here : when ((base + n) == (base + v)) (x n) ≡ x v = rw e (when-same (base + n) (x n)) in
       omega (arith, before, here)
   | inr ne ↦
       let here : when ((base + n) == (base + v)) (x n) ≡ 0 = when-other (base + n) (base + v) (x n) (λ q. ne (omega arith)) in
       omega (arith, one_there n base v x (omega arith), here)
-  ]
+]
 
 -- the same from 0
 pub one_of : (n v : ℕ) (x : ℕ → ℕ) → v < n → count_below n (λ i. when (i == v) (x i)) ≡ x v
 one_of zero v x lt = absurd (omega arith)
 one_of (suc n) v x lt = elim (cases_eq v n) [
-    inl e ↦
+  | inl e ↦
       let before : count_below n (λ i. when (i == v) (x i)) ≡ 0 = none_there n v (λ i. i) x (λ i b q. absurd (omega arith)) in
       let here : when (n == v) (x n) ≡ x v = rw e (when-same n (x n)) in
       omega (arith, before, here)
   | inr ne ↦
       let here : when (n == v) (x n) ≡ 0 = when-other n v (x n) (λ q. ne (sym q)) in
       omega (arith, one_of n v x (omega arith), here)
-  ]
+]
 
 -- an amount counts once, at its own place
 pub one_place : (n e : ℕ) (f : ℕ → ℕ) → e < n → count_below n (λ v. when (e == v) (f v)) ≡ f e
 one_place zero e f lt = absurd (omega arith)
 one_place (suc n) e f lt = elim (cases_eq e n) [
-    inl q ↦
+  | inl q ↦
       let before : count_below n (λ v. when (e == v) (f v)) ≡ 0 =
-        count_below-zero n (λ v. when (e == v) (f v)) (λ v b. when-other e v (f v) (λ s. absurd (omega arith))) in
+      count_below-zero n (λ v. when (e == v) (f v)) (λ v b. when-other e v (f v) (λ s. absurd (omega arith))) in
       let here : when (e == n) (f n) ≡ f e = rw q (when-same n (f n)) in
       omega (arith, before, here)
   | inr ne ↦
       let here : when (e == n) (f n) ≡ 0 = when-other e n (f n) ne in
       omega (arith, one_place n e f (omega arith), here)
-  ]
+]
 
 -- all stand at one node
 pub all_there : (n v : ℕ) (x : ℕ → ℕ) → count_below n (λ i. when (v == v) (x i)) ≡ count_below n x

@@ -45,25 +45,25 @@ places-past (suc n) k test le = by (test n) (places-past n k test (omega arith))
 pub places-marked : (n k : ℕ) (test : ℕ → Bool) → k < n → marks (places_where n test) k ≡ test k
 places-marked zero k test lt = absurd (omega arith)
 places-marked (suc n) k test lt = elim (cases_eq k n) [
-    inl e ↦
+  | inl e ↦
       let last : marks (places_where n test) n ≡ false = places-past n n test (omega arith) in
       let by : (b : Bool) → marks (if b then places_where n test ++ (n ∷ []) else places_where n test) n ≡ b =
-        λ b. elim b as (λ b. marks (if b then places_where n test ++ (n ∷ []) else places_where n test) n ≡ b) [
-          true ↦ list_any-append (λ place. place == n) (places_where n test) (n ∷ []) ∙ rw (last, eq-eqb n n refl) refl
+      λ b. elim b as (λ b. marks (if b then places_where n test ++ (n ∷ []) else places_where n test) n ≡ b) [
+        | true ↦ list_any-append (λ place. place == n) (places_where n test) (n ∷ []) ∙ rw (last, eq-eqb n n refl) refl
         | false ↦ last
-        ] in
+      ] in
       rw e (by (test n))
   | inr ne ↦
       let before : marks (places_where n test) k ≡ test k = places-marked n k test (omega arith) in
       let other : (n == k) ≡ false = ne_eqb n k (λ e. ne (sym e)) in
       let or_false : (b : Bool) → (b || false) ≡ b = λ b. elim b as (λ b. (b || false) ≡ b) [ true ↦ refl | false ↦ refl ] in
       let by : (b : Bool) → marks (if b then places_where n test ++ (n ∷ []) else places_where n test) k ≡ test k =
-        λ b. elim b as (λ b. marks (if b then places_where n test ++ (n ∷ []) else places_where n test) k ≡ test k) [
-          true ↦ list_any-append (λ place. place == k) (places_where n test) (n ∷ []) ∙ rw (before, other) (or_false (test k))
+      λ b. elim b as (λ b. marks (if b then places_where n test ++ (n ∷ []) else places_where n test) k ≡ test k) [
+        | true ↦ list_any-append (λ place. place == k) (places_where n test) (n ∷ []) ∙ rw (before, other) (or_false (test k))
         | false ↦ before
-        ] in
+      ] in
       by (test n)
-  ]
+]
 
 places-below : (n m : ℕ) (test : ℕ → Bool) → n ≤ m → All (λ place. place < m) (places_where n test)
 places-below zero m test le = All-nil (λ place. place < m)
@@ -81,13 +81,13 @@ entry-below (suc n) i test lt = by (test n) (λ h. entry-below n i test h) lt
     by : (b : Bool) → (i < length (places_where n test) → slice_index (places_where n test) i < n) → i < length (if b then places_where n test ++ (n ∷ []) else places_where n test) → slice_index (if b then places_where n test ++ (n ∷ []) else places_where n test) i < suc n
     by false before h = omega (arith, before h)
     by true before h = elim (cases_lt i (length (places_where n test))) [
-        inl below ↦ rw (get_or_append_left (places_where n test) (n ∷ []) 0 i below) (omega (arith, before below))
+      | inl below ↦ rw (get_or_append_left (places_where n test) (n ∷ []) 0 i below) (omega (arith, before below))
       | inr past ↦
           let e : length (places_where n test) + 0 ≡ i = omega (arith, length-append (places_where n test) (n ∷ [])) in
           let at = get_or-append-add (places_where n test) (n ∷ []) 0 0 in
           let here : slice_index (places_where n test ++ (n ∷ [])) i ≡ n = rw e at at in
           rw here (omega arith)
-      ]
+    ]
 
 places-ascend : (n : ℕ) (test : ℕ → Bool) → DoAscend (places_where n test)
 places-ascend zero test i lt = absurd (omega arith)
@@ -102,14 +102,14 @@ places-ascend (suc n) test i lt = by (test n) (places-ascend n test i) lt
         let first : i < length xs = omega (arith, long) in
         let one = get_or_append_left xs (n ∷ []) 0 i first in
         elim (cases_lt (i + 1) (length xs)) [
-          inl below ↦
-            let two = get_or_append_left xs (n ∷ []) 0 (i + 1) below in
-            rw (one, two) (before below)
-        | inr past ↦
-            let e : length xs + 0 ≡ i + 1 = omega (arith, long) in
-            let at = get_or-append-add xs (n ∷ []) 0 0 in
-            let here : slice_index (xs ++ (n ∷ [])) (i + 1) ≡ n = rw e at at in
-            rw (one, here) (entry-below n i test first)
+          | inl below ↦
+              let two = get_or_append_left xs (n ∷ []) 0 (i + 1) below in
+              rw (one, two) (before below)
+          | inr past ↦
+              let e : length xs + 0 ≡ i + 1 = omega (arith, long) in
+              let at = get_or-append-add xs (n ∷ []) 0 0 in
+              let here : slice_index (xs ++ (n ∷ [])) (i + 1) ≡ n = rw e at at in
+              rw (one, here) (entry-below n i test first)
         ]
 
 pub places-are_marks : (n : ℕ) (test : ℕ → Bool) → AreMarks n (places_where n test)
@@ -211,8 +211,8 @@ floors-parts : (rules : RulesValue) (sieve : Sieve) (marked : List Bool) →
 floors-parts rules sieve marked =
     let spans : Spans = ticket_spans rules sieve in
     count_in_four (length rules.pairs) (length rules.papers) (group_count rules) (length rules.reviewers)
-      (pair_arc rules spans) (paper_arc rules spans) (group_arc rules spans) (reviewer_arc rules spans) no_arc
-      (λ (arc : Arc) a. when (is_marked marked arc.head && not (is_marked marked arc.tail)) arc.floor)
+    (pair_arc rules spans) (paper_arc rules spans) (group_arc rules spans) (reviewer_arc rules spans) no_arc
+    (λ (arc : Arc) a. when (is_marked marked arc.head && not (is_marked marked arc.tail)) arc.floor)
 
 rooms-parts : (rules : RulesValue) (sieve : Sieve) (marked : List Bool) →
     rooms_out_of (network_of rules (ticket_spans rules sieve)) marked
@@ -223,8 +223,8 @@ rooms-parts : (rules : RulesValue) (sieve : Sieve) (marked : List Bool) →
 rooms-parts rules sieve marked =
     let spans : Spans = ticket_spans rules sieve in
     count_in_four (length rules.pairs) (length rules.papers) (group_count rules) (length rules.reviewers)
-      (pair_arc rules spans) (paper_arc rules spans) (group_arc rules spans) (reviewer_arc rules spans) no_arc
-      (λ (arc : Arc) a. when (is_marked marked arc.tail && not (is_marked marked arc.head)) arc.room)
+    (pair_arc rules spans) (paper_arc rules spans) (group_arc rules spans) (reviewer_arc rules spans) no_arc
+    (λ (arc : Arc) a. when (is_marked marked arc.tail && not (is_marked marked arc.head)) arc.room)
 
 -- the kept pairs that pass, by any two tests of the ends that agree with the marks
 floors-of_pairs : (rules : RulesValue) (sieve : Sieve) (marked : List Bool) (test : ℕ → Bool) → AreRules rules
@@ -233,9 +233,9 @@ floors-of_pairs : (rules : RulesValue) (sieve : Sieve) (marked : List Bool) (tes
     ≡ count_below (length rules.pairs) (λ e. when (is_marked marked (reviewer_node rules (pair_at rules e).reviewer) && not (is_marked marked (tail_of rules e))) (pair_at rules e).floor)
 floors-of_pairs rules sieve marked test are same =
     count_below-equal (length rules.pairs) (λ e. when (keeps rules sieve e && test e) (pair_at rules e).floor)
-      (λ e. when (is_marked marked (reviewer_node rules (pair_at rules e).reviewer) && not (is_marked marked (tail_of rules e))) (pair_at rules e).floor)
-      (λ e lt. kept-amount (keeps rules sieve e) (test e) (pair_at rules e).floor (at_most-itself (keeps rules sieve e) (pair_at rules e).floor (pair_at rules e).cap (floor-under rules sieve e are lt))
-        ∙ ap (λ b. when b (pair_at rules e).floor) (same e lt))
+    (λ e. when (is_marked marked (reviewer_node rules (pair_at rules e).reviewer) && not (is_marked marked (tail_of rules e))) (pair_at rules e).floor)
+    (λ e lt. kept-amount (keeps rules sieve e) (test e) (pair_at rules e).floor (at_most-itself (keeps rules sieve e) (pair_at rules e).floor (pair_at rules e).cap (floor-under rules sieve e are lt))
+    ∙ ap (λ b. when b (pair_at rules e).floor) (same e lt))
 
 caps-of_pairs : (rules : RulesValue) (sieve : Sieve) (marked : List Bool) (test : ℕ → Bool)
     → ((e : ℕ) → e < length rules.pairs → test e ≡ (is_marked marked (tail_of rules e) && not (is_marked marked (reviewer_node rules (pair_at rules e).reviewer))))
@@ -243,14 +243,14 @@ caps-of_pairs : (rules : RulesValue) (sieve : Sieve) (marked : List Bool) (test 
     ≡ count_below (length rules.pairs) (λ e. when (is_marked marked (tail_of rules e) && not (is_marked marked (reviewer_node rules (pair_at rules e).reviewer))) (cap_under rules sieve e))
 caps-of_pairs rules sieve marked test same =
     count_below-equal (length rules.pairs) (λ e. when (keeps rules sieve e && test e) (pair_at rules e).cap)
-      (λ e. when (is_marked marked (tail_of rules e) && not (is_marked marked (reviewer_node rules (pair_at rules e).reviewer))) (cap_under rules sieve e))
-      (λ e lt. kept-room (keeps rules sieve e) (test e) (pair_at rules e).cap ∙ ap (λ b. when b (cap_under rules sieve e)) (same e lt))
+    (λ e. when (is_marked marked (tail_of rules e) && not (is_marked marked (reviewer_node rules (pair_at rules e).reviewer))) (cap_under rules sieve e))
+    (λ e lt. kept-room (keeps rules sieve e) (test e) (pair_at rules e).cap ∙ ap (λ b. when b (cap_under rules sieve e)) (same e lt))
 
 no-floors : (rules : RulesValue) (marked : List Bool)
     → count_below (group_count rules) (λ g. when (is_marked marked (group_node rules g) && not (is_marked marked (paper_of_group rules g))) 0) ≡ 0
 no-floors rules marked =
     count_below-zero (group_count rules) (λ g. when (is_marked marked (group_node rules g) && not (is_marked marked (paper_of_group rules g))) 0)
-      (λ g lt. when-zero (is_marked marked (group_node rules g) && not (is_marked marked (paper_of_group rules g))))
+    (λ g lt. when-zero (is_marked marked (group_node rules g) && not (is_marked marked (paper_of_group rules g))))
 
 -- ---- where the hub isn't marked
 
@@ -266,14 +266,14 @@ need-into rules sieve marked are h =
     let cut : Cut = cut_in rules marked in
     let apart : (v : ℕ) → is_apart rules marked v ≡ is_marked marked v = λ v. apart-is_marked rules marked v h in
     let pairs = floors-of_pairs rules sieve marked (λ e. not (tail_marked rules cut e) && head_marked rules cut e) are
-      (λ e lt.
-        let t : tail_marked rules cut e ≡ is_marked marked (tail_of rules e) = tail-marked rules marked e are lt ∙ apart (tail_of rules e) in
-        let d : head_marked rules cut e ≡ is_marked marked (reviewer_node rules (pair_at rules e).reviewer) = head-marked rules marked e are lt ∙ apart (reviewer_node rules (pair_at rules e).reviewer) in
-        ap (λ b. not b && head_marked rules cut e) t ∙ ap (λ b. not (is_marked marked (tail_of rules e)) && b) d ∙ turned (is_marked marked (tail_of rules e)) (is_marked marked (reviewer_node rules (pair_at rules e).reviewer))) in
+    (λ e lt.
+    let t : tail_marked rules cut e ≡ is_marked marked (tail_of rules e) = tail-marked rules marked e are lt ∙ apart (tail_of rules e) in
+    let d : head_marked rules cut e ≡ is_marked marked (reviewer_node rules (pair_at rules e).reviewer) = head-marked rules marked e are lt ∙ apart (reviewer_node rules (pair_at rules e).reviewer) in
+    ap (λ b. not b && head_marked rules cut e) t ∙ ap (λ b. not (is_marked marked (tail_of rules e)) && b) d ∙ turned (is_marked marked (tail_of rules e)) (is_marked marked (reviewer_node rules (pair_at rules e).reviewer))) in
     let papers = sum-of_times rules.tickets (length rules.papers) (λ p. is_marked marked p && not (is_marked marked (hub rules))) (marks cut.papers) (λ p. (paper_at rules p).demand)
-      (λ p lt. ap (λ b. is_marked marked p && not b) h ∙ and-true (is_marked marked p) ∙ sym (paper-marked rules marked p lt ∙ apart p)) in
+    (λ p lt. ap (λ b. is_marked marked p && not b) h ∙ and-true (is_marked marked p) ∙ sym (paper-marked rules marked p lt ∙ apart p)) in
     let reviewers = nothing-where (length rules.reviewers) (λ r. is_marked marked (hub rules) && not (is_marked marked (reviewer_node rules r))) (λ r. rules.tickets * (reviewer_at rules r).least)
-      (λ r lt. ap (λ b. b && not (is_marked marked (reviewer_node rules r))) h) in
+    (λ r lt. ap (λ b. b && not (is_marked marked (reviewer_node rules r))) h) in
     omega (arith, floors-parts rules sieve marked, pairs, papers, reviewers, no-floors rules marked)
 
 room-into : (rules : RulesValue) (sieve : Sieve) (marked : List Bool) → AreRules rules → is_marked marked (hub rules) ≡ false
@@ -282,19 +282,19 @@ room-into rules sieve marked are h =
     let cut : Cut = cut_in rules marked in
     let apart : (v : ℕ) → is_apart rules marked v ≡ is_marked marked v = λ v. apart-is_marked rules marked v h in
     let pairs = caps-of_pairs rules sieve marked (λ e. tail_marked rules cut e && not (head_marked rules cut e))
-      (λ e lt.
-        let t : tail_marked rules cut e ≡ is_marked marked (tail_of rules e) = tail-marked rules marked e are lt ∙ apart (tail_of rules e) in
-        let d : head_marked rules cut e ≡ is_marked marked (reviewer_node rules (pair_at rules e).reviewer) = head-marked rules marked e are lt ∙ apart (reviewer_node rules (pair_at rules e).reviewer) in
-        ap (λ b. b && not (head_marked rules cut e)) t ∙ ap (λ b. is_marked marked (tail_of rules e) && not b) d) in
+    (λ e lt.
+    let t : tail_marked rules cut e ≡ is_marked marked (tail_of rules e) = tail-marked rules marked e are lt ∙ apart (tail_of rules e) in
+    let d : head_marked rules cut e ≡ is_marked marked (reviewer_node rules (pair_at rules e).reviewer) = head-marked rules marked e are lt ∙ apart (reviewer_node rules (pair_at rules e).reviewer) in
+    ap (λ b. b && not (head_marked rules cut e)) t ∙ ap (λ b. is_marked marked (tail_of rules e) && not b) d) in
     let papers = nothing-where (length rules.papers) (λ p. is_marked marked (hub rules) && not (is_marked marked p)) (λ p. rules.tickets * (paper_at rules p).demand)
-      (λ p lt. ap (λ b. b && not (is_marked marked p)) h) in
+    (λ p lt. ap (λ b. b && not (is_marked marked p)) h) in
     let groups = sum-of_times rules.tickets (group_count rules) (λ g. is_marked marked (paper_of_group rules g) && not (is_marked marked (group_node rules g))) (leaves_group rules cut) (λ g. rules.limit)
-      (λ g lt.
-        let own : marks cut.groups g ≡ is_marked marked (group_node rules g) = group-marked rules marked g lt ∙ apart (group_node rules g) in
-        let paper : marks cut.papers (paper_of_group rules g) ≡ is_marked marked (paper_of_group rules g) = paper-marked rules marked (paper_of_group rules g) (group-paper-below rules g are lt) ∙ apart (paper_of_group rules g) in
-        sym (ap (λ b. not b && marks cut.papers (paper_of_group rules g)) own ∙ ap (λ b. not (is_marked marked (group_node rules g)) && b) paper ∙ turned (is_marked marked (group_node rules g)) (is_marked marked (paper_of_group rules g)))) in
+    (λ g lt.
+    let own : marks cut.groups g ≡ is_marked marked (group_node rules g) = group-marked rules marked g lt ∙ apart (group_node rules g) in
+    let paper : marks cut.papers (paper_of_group rules g) ≡ is_marked marked (paper_of_group rules g) = paper-marked rules marked (paper_of_group rules g) (group-paper-below rules g are lt) ∙ apart (paper_of_group rules g) in
+    sym (ap (λ b. not b && marks cut.papers (paper_of_group rules g)) own ∙ ap (λ b. not (is_marked marked (group_node rules g)) && b) paper ∙ turned (is_marked marked (group_node rules g)) (is_marked marked (paper_of_group rules g)))) in
     let reviewers = sum-of_times rules.tickets (length rules.reviewers) (λ r. is_marked marked (reviewer_node rules r) && not (is_marked marked (hub rules))) (marks cut.reviewers) (λ r. (reviewer_at rules r).greatest)
-      (λ r lt. ap (λ b. is_marked marked (reviewer_node rules r) && not b) h ∙ and-true (is_marked marked (reviewer_node rules r)) ∙ sym (reviewer-marked rules marked r lt ∙ apart (reviewer_node rules r))) in
+    (λ r lt. ap (λ b. is_marked marked (reviewer_node rules r) && not b) h ∙ and-true (is_marked marked (reviewer_node rules r)) ∙ sym (reviewer-marked rules marked r lt ∙ apart (reviewer_node rules r))) in
     omega (arith, rooms-parts rules sieve marked, pairs, papers, groups, reviewers)
 
 -- ---- where the hub is marked
@@ -305,14 +305,14 @@ need-out_of rules sieve marked are h =
     let cut : Cut = cut_in rules marked in
     let apart : (v : ℕ) → is_apart rules marked v ≡ not (is_marked marked v) = λ v. apart-is_unmarked rules marked v h in
     let pairs = floors-of_pairs rules sieve marked (λ e. tail_marked rules cut e && not (head_marked rules cut e)) are
-      (λ e lt.
-        let t : tail_marked rules cut e ≡ not (is_marked marked (tail_of rules e)) = tail-marked rules marked e are lt ∙ apart (tail_of rules e) in
-        let d : head_marked rules cut e ≡ not (is_marked marked (reviewer_node rules (pair_at rules e).reviewer)) = head-marked rules marked e are lt ∙ apart (reviewer_node rules (pair_at rules e).reviewer) in
-        ap (λ b. b && not (head_marked rules cut e)) t ∙ ap (λ b. not (is_marked marked (tail_of rules e)) && not b) d ∙ twice_right (is_marked marked (tail_of rules e)) (is_marked marked (reviewer_node rules (pair_at rules e).reviewer))) in
+    (λ e lt.
+    let t : tail_marked rules cut e ≡ not (is_marked marked (tail_of rules e)) = tail-marked rules marked e are lt ∙ apart (tail_of rules e) in
+    let d : head_marked rules cut e ≡ not (is_marked marked (reviewer_node rules (pair_at rules e).reviewer)) = head-marked rules marked e are lt ∙ apart (reviewer_node rules (pair_at rules e).reviewer) in
+    ap (λ b. b && not (head_marked rules cut e)) t ∙ ap (λ b. not (is_marked marked (tail_of rules e)) && not b) d ∙ twice_right (is_marked marked (tail_of rules e)) (is_marked marked (reviewer_node rules (pair_at rules e).reviewer))) in
     let papers = nothing-where (length rules.papers) (λ p. is_marked marked p && not (is_marked marked (hub rules))) (λ p. rules.tickets * (paper_at rules p).demand)
-      (λ p lt. ap (λ b. is_marked marked p && not b) h ∙ and-false (is_marked marked p)) in
+    (λ p lt. ap (λ b. is_marked marked p && not b) h ∙ and-false (is_marked marked p)) in
     let reviewers = sum-of_times rules.tickets (length rules.reviewers) (λ r. is_marked marked (hub rules) && not (is_marked marked (reviewer_node rules r))) (marks cut.reviewers) (λ r. (reviewer_at rules r).least)
-      (λ r lt. ap (λ b. b && not (is_marked marked (reviewer_node rules r))) h ∙ sym (reviewer-marked rules marked r lt ∙ apart (reviewer_node rules r))) in
+    (λ r lt. ap (λ b. b && not (is_marked marked (reviewer_node rules r))) h ∙ sym (reviewer-marked rules marked r lt ∙ apart (reviewer_node rules r))) in
     omega (arith, floors-parts rules sieve marked, pairs, papers, reviewers, no-floors rules marked)
 
 room-out_of : (rules : RulesValue) (sieve : Sieve) (marked : List Bool) → AreRules rules → is_marked marked (hub rules) ≡ true
@@ -321,19 +321,19 @@ room-out_of rules sieve marked are h =
     let cut : Cut = cut_in rules marked in
     let apart : (v : ℕ) → is_apart rules marked v ≡ not (is_marked marked v) = λ v. apart-is_unmarked rules marked v h in
     let pairs = caps-of_pairs rules sieve marked (λ e. not (tail_marked rules cut e) && head_marked rules cut e)
-      (λ e lt.
-        let t : tail_marked rules cut e ≡ not (is_marked marked (tail_of rules e)) = tail-marked rules marked e are lt ∙ apart (tail_of rules e) in
-        let d : head_marked rules cut e ≡ not (is_marked marked (reviewer_node rules (pair_at rules e).reviewer)) = head-marked rules marked e are lt ∙ apart (reviewer_node rules (pair_at rules e).reviewer) in
-        ap (λ b. not b && head_marked rules cut e) t ∙ ap (λ b. not (not (is_marked marked (tail_of rules e))) && b) d ∙ twice_left (is_marked marked (tail_of rules e)) (is_marked marked (reviewer_node rules (pair_at rules e).reviewer))) in
+    (λ e lt.
+    let t : tail_marked rules cut e ≡ not (is_marked marked (tail_of rules e)) = tail-marked rules marked e are lt ∙ apart (tail_of rules e) in
+    let d : head_marked rules cut e ≡ not (is_marked marked (reviewer_node rules (pair_at rules e).reviewer)) = head-marked rules marked e are lt ∙ apart (reviewer_node rules (pair_at rules e).reviewer) in
+    ap (λ b. not b && head_marked rules cut e) t ∙ ap (λ b. not (not (is_marked marked (tail_of rules e))) && b) d ∙ twice_left (is_marked marked (tail_of rules e)) (is_marked marked (reviewer_node rules (pair_at rules e).reviewer))) in
     let papers = sum-of_times rules.tickets (length rules.papers) (λ p. is_marked marked (hub rules) && not (is_marked marked p)) (marks cut.papers) (λ p. (paper_at rules p).demand)
-      (λ p lt. ap (λ b. b && not (is_marked marked p)) h ∙ sym (paper-marked rules marked p lt ∙ apart p)) in
+    (λ p lt. ap (λ b. b && not (is_marked marked p)) h ∙ sym (paper-marked rules marked p lt ∙ apart p)) in
     let groups = sum-of_times rules.tickets (group_count rules) (λ g. is_marked marked (paper_of_group rules g) && not (is_marked marked (group_node rules g))) (enters_group rules cut) (λ g. rules.limit)
-      (λ g lt.
-        let own : marks cut.groups g ≡ not (is_marked marked (group_node rules g)) = group-marked rules marked g lt ∙ apart (group_node rules g) in
-        let paper : marks cut.papers (paper_of_group rules g) ≡ not (is_marked marked (paper_of_group rules g)) = paper-marked rules marked (paper_of_group rules g) (group-paper-below rules g are lt) ∙ apart (paper_of_group rules g) in
-        sym (ap (λ b. b && not (marks cut.papers (paper_of_group rules g))) own ∙ ap (λ b. not (is_marked marked (group_node rules g)) && not b) paper ∙ twice_right (is_marked marked (group_node rules g)) (is_marked marked (paper_of_group rules g)))) in
+    (λ g lt.
+    let own : marks cut.groups g ≡ not (is_marked marked (group_node rules g)) = group-marked rules marked g lt ∙ apart (group_node rules g) in
+    let paper : marks cut.papers (paper_of_group rules g) ≡ not (is_marked marked (paper_of_group rules g)) = paper-marked rules marked (paper_of_group rules g) (group-paper-below rules g are lt) ∙ apart (paper_of_group rules g) in
+    sym (ap (λ b. b && not (marks cut.papers (paper_of_group rules g))) own ∙ ap (λ b. not (is_marked marked (group_node rules g)) && not b) paper ∙ twice_right (is_marked marked (group_node rules g)) (is_marked marked (paper_of_group rules g)))) in
     let reviewers = nothing-where (length rules.reviewers) (λ r. is_marked marked (reviewer_node rules r) && not (is_marked marked (hub rules))) (λ r. rules.tickets * (reviewer_at rules r).greatest)
-      (λ r lt. ap (λ b. is_marked marked (reviewer_node rules r) && not b) h ∙ and-false (is_marked marked (reviewer_node rules r))) in
+    (λ r lt. ap (λ b. is_marked marked (reviewer_node rules r) && not b) h ∙ and-false (is_marked marked (reviewer_node rules r))) in
     omega (arith, rooms-parts rules sieve marked, pairs, papers, groups, reviewers)
 
 -- ---- both

@@ -13,3 +13,4 @@ pub mod Serving
 pub mod Small
 pub mod Sums
 pub mod Tallies
+pub mod Worked

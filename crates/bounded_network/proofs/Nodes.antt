@@ -42,9 +42,9 @@ tail-of_group rules e g are lt = by (group_of rules e) refl
         → (option_map_or (group_node rules) place (pair_at rules e).paper == group_node rules g) ≡ option_map_or (λ h. h == g) place false
     by None is = let below = (are.pairs.each e lt).paper in ne_eqb (pair_at rules e).paper (group_node rules g) (λ q. absurd (omega arith))
     by (Some h) is = elim (cases_eq h g) [
-        inl q ↦ rw q (eq-eqb (group_node rules g) (group_node rules g) refl ∙ sym (eq-eqb g g refl))
+      | inl q ↦ rw q (eq-eqb (group_node rules g) (group_node rules g) refl ∙ sym (eq-eqb g g refl))
       | inr ne ↦ ne_eqb (group_node rules h) (group_node rules g) (λ q. ne (omega arith)) ∙ sym (ne_eqb h g ne)
-      ]
+    ]
 
 -- a pair of a paper leaves the paper itself, or one of its groups
 pub paper-of_pair : (rules : RulesValue) (e p x : ℕ) → p < length rules.papers →
@@ -89,13 +89,13 @@ pub entering-is : (rules : RulesValue) (spans : Spans) (flow : List ℕ) (v : �
     entering (network_of rules spans) flow v ≡ at_node rules flow (λ e. reviewer_node rules (pair_at rules e).reviewer) (λ p. p) (group_node rules) (λ r. hub rules) v
 entering-is rules spans flow v =
     count_in_four (length rules.pairs) (length rules.papers) (group_count rules) (length rules.reviewers)
-      (pair_arc rules spans) (paper_arc rules spans) (group_arc rules spans) (reviewer_arc rules spans) no_arc (λ (arc : Arc) a. when (arc.head == v) (slice_index flow a))
+    (pair_arc rules spans) (paper_arc rules spans) (group_arc rules spans) (reviewer_arc rules spans) no_arc (λ (arc : Arc) a. when (arc.head == v) (slice_index flow a))
 
 pub leaving-is : (rules : RulesValue) (spans : Spans) (flow : List ℕ) (v : ℕ) →
     leaving (network_of rules spans) flow v ≡ at_node rules flow (tail_of rules) (λ p. hub rules) (paper_of_group rules) (reviewer_node rules) v
 leaving-is rules spans flow v =
     count_in_four (length rules.pairs) (length rules.papers) (group_count rules) (length rules.reviewers)
-      (pair_arc rules spans) (paper_arc rules spans) (group_arc rules spans) (reviewer_arc rules spans) no_arc (λ (arc : Arc) a. when (arc.tail == v) (slice_index flow a))
+    (pair_arc rules spans) (paper_arc rules spans) (group_arc rules spans) (reviewer_arc rules spans) no_arc (λ (arc : Arc) a. when (arc.tail == v) (slice_index flow a))
 
 -- the amounts of papers, groups and reviewers in a flow
 abbrev pub paper_flow : RulesValue → List ℕ → ℕ → ℕ
@@ -149,9 +149,9 @@ leaves-group rules spans flow g are lt =
 
 same-reviewer : (rules : RulesValue) (q r x : ℕ) → when (reviewer_node rules q == reviewer_node rules r) x ≡ when (q == r) x
 same-reviewer rules q r x = elim (cases_eq q r) [
-    inl e ↦ rw e (when-same (reviewer_node rules r) x ∙ sym (when-same r x))
+  | inl e ↦ rw e (when-same (reviewer_node rules r) x ∙ sym (when-same r x))
   | inr ne ↦ when-other (reviewer_node rules q) (reviewer_node rules r) x (λ s. ne (omega arith)) ∙ sym (when-other q r x ne)
-  ]
+]
 
 pub enters-reviewer : (rules : RulesValue) (spans : Spans) (flow : List ℕ) (r : ℕ) → r < length rules.reviewers →
     entering (network_of rules spans) flow (reviewer_node rules r) ≡ reviewer_shares rules flow r
@@ -216,7 +216,7 @@ pub passes-of_balanced : (rules : RulesValue) (spans : Spans) (flow : List ℕ) 
     → ((v : ℕ) → v < node_count rules → entering (network_of rules spans) flow v ≡ leaving (network_of rules spans) flow v) → Passes rules flow
 passes-of_balanced rules spans flow are balanced =
     let of_groups : (g : ℕ) → g < group_count rules → group_flow rules flow g ≡ group_shares rules flow g =
-      λ g lt. sym (enters-group rules spans flow g lt) ∙ balanced (group_node rules g) (omega arith) ∙ leaves-group rules spans flow g are lt in
+    λ g lt. sym (enters-group rules spans flow g lt) ∙ balanced (group_node rules g) (omega arith) ∙ leaves-group rules spans flow g are lt in
     record {
       papers = λ p lt. sym (enters-paper rules spans flow p lt) ∙ balanced p (omega arith) ∙ leaves-paper-sum rules spans flow p lt of_groups;
       of_groups = of_groups;
@@ -241,24 +241,24 @@ balanced-of_passes rules spans flow are passes v lt =
     let ps : ℕ = length rules.papers in
     let gs : ℕ = group_count rules in
     elim (cases_lt v ps) [
-      inl h ↦ enters-paper rules spans flow v h ∙ passes.papers v h ∙ sym (leaves-paper-sum rules spans flow v h passes.of_groups)
-    | inr h ↦ elim (cases_lt v (ps + gs)) [
-        inl h2 ↦
-          let g : ℕ = v - ps in
-          let e : group_node rules g ≡ v = omega arith in
-          let b : g < gs = omega arith in
-          subst (λ n. entering net flow n ≡ leaving net flow n) e
-            (enters-group rules spans flow g b ∙ passes.of_groups g b ∙ sym (leaves-group rules spans flow g are b))
-      | inr h2 ↦ elim (cases_lt v (hub rules)) [
-          inl h3 ↦
-            let r : ℕ = v - (ps + gs) in
-            let e : reviewer_node rules r ≡ v = omega arith in
-            let b : r < length rules.reviewers = omega arith in
+      | inl h ↦ enters-paper rules spans flow v h ∙ passes.papers v h ∙ sym (leaves-paper-sum rules spans flow v h passes.of_groups)
+      | inr h ↦ elim (cases_lt v (ps + gs)) [
+        | inl h2 ↦
+            let g : ℕ = v - ps in
+            let e : group_node rules g ≡ v = omega arith in
+            let b : g < gs = omega arith in
             subst (λ n. entering net flow n ≡ leaving net flow n) e
+            (enters-group rules spans flow g b ∙ passes.of_groups g b ∙ sym (leaves-group rules spans flow g are b))
+        | inr h2 ↦ elim (cases_lt v (hub rules)) [
+          | inl h3 ↦
+              let r : ℕ = v - (ps + gs) in
+              let e : reviewer_node rules r ≡ v = omega arith in
+              let b : r < length rules.reviewers = omega arith in
+              subst (λ n. entering net flow n ≡ leaving net flow n) e
               (enters-reviewer rules spans flow r b ∙ sym (passes.reviewers r b) ∙ sym (leaves-reviewer rules spans flow r are b))
-        | inr h3 ↦
-            let e : hub rules ≡ v = omega arith in
-            subst (λ n. entering net flow n ≡ leaving net flow n) e (hub-balanced rules spans flow are passes)
+          | inr h3 ↦
+              let e : hub rules ≡ v = omega arith in
+              subst (λ n. entering net flow n ≡ leaving net flow n) e (hub-balanced rules spans flow are passes)
         ]
       ]
     ]

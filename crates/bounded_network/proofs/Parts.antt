@@ -16,7 +16,7 @@ length-listed (suc n) f = omega (arith, length-append (listed n f) (f n ∷ []),
 pub listed-at : {X : Type 0} → (n k : ℕ) (f : ℕ → X) (d : X) → k < n → get_or (listed n f) k d ≡ f k
 listed-at zero k f d lt = absurd (omega arith)
 listed-at (suc n) k f d lt = elim (cases_eq k n) [
-    inl e ↦
+  | inl e ↦
       let here : length (listed n f) + 0 ≡ k = omega (arith, length-listed n f) in
       let found = get_or-append-add (listed n f) (f n ∷ []) 0 d in
       let same : f n ≡ f k = ap f (sym e) in
@@ -24,7 +24,7 @@ listed-at (suc n) k f d lt = elim (cases_eq k n) [
   | inr ne ↦
       let below : k < length (listed n f) = omega (arith, length-listed n f) in
       get_or_append_left (listed n f) (f n ∷ []) d k below ∙ listed-at n k f d (omega arith)
-  ]
+]
 
 -- the first part of a list is found in it, and the second behind it
 pub left-at : {X : Type 0} → (xs ys : List X) (n i : ℕ) (d : X) → length xs ≡ n → i < n → get_or (xs ++ ys) i d ≡ get_or xs i d
@@ -83,24 +83,24 @@ pub each-four : {X : Type 0} → (k p g r : ℕ) (a b c d : ℕ → X) (x : X) (
 each-four k p g r a b c d x Q one two three last j lt =
     let long = length-four k p g r a b c d in
     elim (cases_lt j k) [
-      inl h ↦ subst (λ y. Q y j) (sym (first-at k p g r a b c d x j h)) (one j h)
-    | inr h ↦ elim (cases_lt j (k + p)) [
-        inl h2 ↦
-          let i : ℕ = j - k in
-          let e : k + i ≡ j = omega arith in
-          let at = second-at k p g r a b c d x i (omega arith) in
-          subst (λ n. Q (get_or (four k p g r a b c d) n x) n) e (subst (λ y. Q y (k + i)) (sym at) (two i (omega arith)))
-      | inr h2 ↦ elim (cases_lt j ((k + p) + g)) [
-          inl h3 ↦
-            let i : ℕ = j - (k + p) in
-            let e : (k + p) + i ≡ j = omega arith in
-            let at = third-at k p g r a b c d x i (omega arith) in
-            subst (λ n. Q (get_or (four k p g r a b c d) n x) n) e (subst (λ y. Q y ((k + p) + i)) (sym at) (three i (omega arith)))
-        | inr h3 ↦
-            let i : ℕ = j - ((k + p) + g) in
-            let e : ((k + p) + g) + i ≡ j = omega arith in
-            let at = fourth-at k p g r a b c d x i (omega arith) in
-            subst (λ n. Q (get_or (four k p g r a b c d) n x) n) e (subst (λ y. Q y (((k + p) + g) + i)) (sym at) (last i (omega arith)))
+      | inl h ↦ subst (λ y. Q y j) (sym (first-at k p g r a b c d x j h)) (one j h)
+      | inr h ↦ elim (cases_lt j (k + p)) [
+        | inl h2 ↦
+            let i : ℕ = j - k in
+            let e : k + i ≡ j = omega arith in
+            let at = second-at k p g r a b c d x i (omega arith) in
+            subst (λ n. Q (get_or (four k p g r a b c d) n x) n) e (subst (λ y. Q y (k + i)) (sym at) (two i (omega arith)))
+        | inr h2 ↦ elim (cases_lt j ((k + p) + g)) [
+          | inl h3 ↦
+              let i : ℕ = j - (k + p) in
+              let e : (k + p) + i ≡ j = omega arith in
+              let at = third-at k p g r a b c d x i (omega arith) in
+              subst (λ n. Q (get_or (four k p g r a b c d) n x) n) e (subst (λ y. Q y ((k + p) + i)) (sym at) (three i (omega arith)))
+          | inr h3 ↦
+              let i : ℕ = j - ((k + p) + g) in
+              let e : ((k + p) + g) + i ≡ j = omega arith in
+              let at = fourth-at k p g r a b c d x i (omega arith) in
+              subst (λ n. Q (get_or (four k p g r a b c d) n x) n) e (subst (λ y. Q y (((k + p) + g) + i)) (sym at) (last i (omega arith)))
         ]
       ]
     ]

@@ -55,7 +55,7 @@ either_way z w = by (w -ℤ z) refl
 
 scale_max : (n : ℕ) (z w : ℤ) → pos n *ℤ int_max z w ≡ int_max (pos n *ℤ z) (pos n *ℤ w)
 scale_max n z w = elim (either_way z w) [
-    inl le ↦
+  | inl le ↦
       let e : int_max z w ≡ w = omega (arith, ints, clamps) in
       let m = scale_order n z w le in
       ap (λ y. pos n *ℤ y) e ∙ omega (arith, ints, clamps)
@@ -63,7 +63,7 @@ scale_max n z w = elim (either_way z w) [
       let e : int_max z w ≡ z = omega (arith, ints, clamps) in
       let m = scale_order n w z le in
       ap (λ y. pos n *ℤ y) e ∙ omega (arith, ints, clamps)
-  ]
+]
 
 most-scaled : (t least greatest : ℕ) (z : ℤ) → most_at (t * least) (t * greatest) z ≡ pos t *ℤ most_at least greatest z
 most-scaled t least greatest z =
@@ -93,32 +93,32 @@ optimal-most x floor room r fx xr up down =
     let a = scale_neg floor r in
     let b = scale_neg room r in
     elim (cases_lt x room) [
-      inl rise ↦
-        let sign = up rise in
-        let low : (pos floor *ℤ r) ≤ℤ (pos x *ℤ r) = scale_more floor x r fx sign in
-        let high : (pos x *ℤ r) ≤ℤ (pos room *ℤ r) = scale_more x room r xr sign in
-        elim (cases_lt floor x) [
-          inl fall ↦
-            let none : r ≡ pos 0 = omega (arith, ints, sign, down fall) in
-            let z : (n : ℕ) → pos n *ℤ r ≡ pos 0 = λ n. ap (λ y. pos n *ℤ y) none ∙ *ℤ-zero (pos n) in
-            omega (arith, ints, clamps, a, b, z floor, z room, z x)
-        | inr still ↦
-            let same : floor ≡ x = omega arith in
-            let e : pos floor *ℤ r ≡ pos x *ℤ r = ap (λ n. pos n *ℤ r) same in
-            omega (arith, ints, clamps, a, b, e, high)
-        ]
-    | inr full ↦
-        let same : room ≡ x = omega arith in
-        let e : pos room *ℤ r ≡ pos x *ℤ r = ap (λ n. pos n *ℤ r) same in
-        elim (cases_lt floor x) [
-          inl fall ↦
-            let low : (pos x *ℤ r) ≤ℤ (pos floor *ℤ r) = scale_less floor x r fx (down fall) in
-            omega (arith, ints, clamps, a, b, e, low)
-        | inr still ↦
-            let same2 : floor ≡ x = omega arith in
-            let e2 : pos floor *ℤ r ≡ pos x *ℤ r = ap (λ n. pos n *ℤ r) same2 in
-            omega (arith, ints, clamps, a, b, e, e2)
-        ]
+      | inl rise ↦
+          let sign = up rise in
+          let low : (pos floor *ℤ r) ≤ℤ (pos x *ℤ r) = scale_more floor x r fx sign in
+          let high : (pos x *ℤ r) ≤ℤ (pos room *ℤ r) = scale_more x room r xr sign in
+          elim (cases_lt floor x) [
+            | inl fall ↦
+                let none : r ≡ pos 0 = omega (arith, ints, sign, down fall) in
+                let z : (n : ℕ) → pos n *ℤ r ≡ pos 0 = λ n. ap (λ y. pos n *ℤ y) none ∙ *ℤ-zero (pos n) in
+                omega (arith, ints, clamps, a, b, z floor, z room, z x)
+            | inr still ↦
+                let same : floor ≡ x = omega arith in
+                let e : pos floor *ℤ r ≡ pos x *ℤ r = ap (λ n. pos n *ℤ r) same in
+                omega (arith, ints, clamps, a, b, e, high)
+          ]
+      | inr full ↦
+          let same : room ≡ x = omega arith in
+          let e : pos room *ℤ r ≡ pos x *ℤ r = ap (λ n. pos n *ℤ r) same in
+          elim (cases_lt floor x) [
+            | inl fall ↦
+                let low : (pos x *ℤ r) ≤ℤ (pos floor *ℤ r) = scale_less floor x r fx (down fall) in
+                omega (arith, ints, clamps, a, b, e, low)
+            | inr still ↦
+                let same2 : floor ≡ x = omega arith in
+                let e2 : pos floor *ℤ r ≡ pos x *ℤ r = ap (λ n. pos n *ℤ r) same2 in
+                omega (arith, ints, clamps, a, b, e, e2)
+          ]
     ]
 
 -- ---- the parts of the bound
@@ -143,7 +143,7 @@ gain-of_pair rules sieve potentials e are lt =
         → price_at (prices_in rules potentials).reviewers (pair_at rules e).reviewer ≡ reviewer_price_in rules potentials (pair_at rules e).reviewer
         → neg_ℤ ((neg_ℤ (pair_at rules e).score +ℤ potential_at potentials (option_map_or (group_node rules) place (pair_at rules e).paper)) -ℤ potential_at potentials (reviewer_node rules (pair_at rules e).reviewer))
         ≡ (((pair_at rules e).score -ℤ price_at (prices_in rules potentials).papers (pair_at rules e).paper) -ℤ option_map_or (price_at (prices_in rules potentials).groups) place (pos 0))
-          -ℤ price_at (prices_in rules potentials).reviewers (pair_at rules e).reviewer
+        -ℤ price_at (prices_in rules potentials).reviewers (pair_at rules e).reviewer
     by None is paper reviewer = omega (arith, ints, paper, reviewer)
     by (Some g) is paper reviewer =
         let own = listed-at (group_count rules) g (group_price_in rules potentials) (pos 0) (group_of_below rules e g is) in
@@ -175,34 +175,34 @@ bound-is_sum rules sieve potentials are =
     let most : Arc → ℤ = λ (arc : Arc). most_at arc.floor arc.room (gain potentials arc) in
     let whole = sum_in_four k ps gs rs (pair_arc rules spans) (paper_arc rules spans) (group_arc rules spans) (reviewer_arc rules spans) no_arc (λ (arc : Arc) a. most arc) in
     let pairs : sum_below k (λ e. most (pair_arc rules spans e)) ≡ pair_part rules sieve prices =
-      sum_below-equal k (λ e. most (pair_arc rules spans e)) (λ e. int_when (keeps rules sieve e) (most_at (pair_at rules e).floor (pair_at rules e).cap (rest rules prices e)))
-        (λ e lt. ap (λ z. most_at (pair_at rules e).floor (cap_under rules sieve e) z) (gain-of_pair rules sieve potentials e are lt) ∙ pair-part rules sieve e (rest rules prices e) are lt) in
+    sum_below-equal k (λ e. most (pair_arc rules spans e)) (λ e. int_when (keeps rules sieve e) (most_at (pair_at rules e).floor (pair_at rules e).cap (rest rules prices e)))
+    (λ e lt. ap (λ z. most_at (pair_at rules e).floor (cap_under rules sieve e) z) (gain-of_pair rules sieve potentials e are lt) ∙ pair-part rules sieve e (rest rules prices e) are lt) in
     let papers : sum_below ps (λ p. most (paper_arc rules spans p)) ≡ pos t *ℤ paper_part rules prices =
-      sum_below-equal ps (λ p. most (paper_arc rules spans p)) (λ p. pos t *ℤ (pos (paper_at rules p).demand *ℤ price_at prices.papers p))
-        (λ p lt.
-          let price = listed-at ps p (paper_price_in rules potentials) (pos 0) lt in
-          let is : gain potentials (paper_arc rules spans p) ≡ price_at prices.papers p = omega (arith, ints, price) in
-          ap (λ z. most_at (t * (paper_at rules p).demand) (t * (paper_at rules p).demand) z) is
-          ∙ most-of_one (t * (paper_at rules p).demand) (price_at prices.papers p)
-          ∙ scale_twice t (paper_at rules p).demand (price_at prices.papers p))
-      ∙ sum-scaled t ps (λ p. pos (paper_at rules p).demand *ℤ price_at prices.papers p) in
+    sum_below-equal ps (λ p. most (paper_arc rules spans p)) (λ p. pos t *ℤ (pos (paper_at rules p).demand *ℤ price_at prices.papers p))
+    (λ p lt.
+    let price = listed-at ps p (paper_price_in rules potentials) (pos 0) lt in
+    let is : gain potentials (paper_arc rules spans p) ≡ price_at prices.papers p = omega (arith, ints, price) in
+    ap (λ z. most_at (t * (paper_at rules p).demand) (t * (paper_at rules p).demand) z) is
+    ∙ most-of_one (t * (paper_at rules p).demand) (price_at prices.papers p)
+    ∙ scale_twice t (paper_at rules p).demand (price_at prices.papers p))
+    ∙ sum-scaled t ps (λ p. pos (paper_at rules p).demand *ℤ price_at prices.papers p) in
     let groups : sum_below gs (λ g. most (group_arc rules spans g)) ≡ pos t *ℤ group_part rules prices =
-      sum_below-equal gs (λ g. most (group_arc rules spans g)) (λ g. pos t *ℤ (pos rules.limit *ℤ int_max (pos 0) (price_at prices.groups g)))
-        (λ g lt.
-          let price = listed-at gs g (group_price_in rules potentials) (pos 0) lt in
-          let is : gain potentials (group_arc rules spans g) ≡ price_at prices.groups g = omega (arith, ints, price) in
-          ap (λ z. most_at 0 (t * rules.limit) z) is
-          ∙ most-from_zero (t * rules.limit) (price_at prices.groups g)
-          ∙ scale_twice t rules.limit (int_max (pos 0) (price_at prices.groups g)))
-      ∙ sum-scaled t gs (λ g. pos rules.limit *ℤ int_max (pos 0) (price_at prices.groups g)) in
+    sum_below-equal gs (λ g. most (group_arc rules spans g)) (λ g. pos t *ℤ (pos rules.limit *ℤ int_max (pos 0) (price_at prices.groups g)))
+    (λ g lt.
+    let price = listed-at gs g (group_price_in rules potentials) (pos 0) lt in
+    let is : gain potentials (group_arc rules spans g) ≡ price_at prices.groups g = omega (arith, ints, price) in
+    ap (λ z. most_at 0 (t * rules.limit) z) is
+    ∙ most-from_zero (t * rules.limit) (price_at prices.groups g)
+    ∙ scale_twice t rules.limit (int_max (pos 0) (price_at prices.groups g)))
+    ∙ sum-scaled t gs (λ g. pos rules.limit *ℤ int_max (pos 0) (price_at prices.groups g)) in
     let reviewers : sum_below rs (λ r. most (reviewer_arc rules spans r)) ≡ pos t *ℤ reviewer_part rules prices =
-      sum_below-equal rs (λ r. most (reviewer_arc rules spans r)) (λ r. pos t *ℤ most_at (reviewer_at rules r).least (reviewer_at rules r).greatest (price_at prices.reviewers r))
-        (λ r lt.
-          let price = listed-at rs r (reviewer_price_in rules potentials) (pos 0) lt in
-          let is : gain potentials (reviewer_arc rules spans r) ≡ price_at prices.reviewers r = omega (arith, ints, price) in
-          ap (λ z. most_at (t * (reviewer_at rules r).least) (t * (reviewer_at rules r).greatest) z) is
-          ∙ most-scaled t (reviewer_at rules r).least (reviewer_at rules r).greatest (price_at prices.reviewers r))
-      ∙ sum-scaled t rs (λ r. most_at (reviewer_at rules r).least (reviewer_at rules r).greatest (price_at prices.reviewers r)) in
+    sum_below-equal rs (λ r. most (reviewer_arc rules spans r)) (λ r. pos t *ℤ most_at (reviewer_at rules r).least (reviewer_at rules r).greatest (price_at prices.reviewers r))
+    (λ r lt.
+    let price = listed-at rs r (reviewer_price_in rules potentials) (pos 0) lt in
+    let is : gain potentials (reviewer_arc rules spans r) ≡ price_at prices.reviewers r = omega (arith, ints, price) in
+    ap (λ z. most_at (t * (reviewer_at rules r).least) (t * (reviewer_at rules r).greatest) z) is
+    ∙ most-scaled t (reviewer_at rules r).least (reviewer_at rules r).greatest (price_at prices.reviewers r))
+    ∙ sum-scaled t rs (λ r. most_at (reviewer_at rules r).least (reviewer_at rules r).greatest (price_at prices.reviewers r)) in
     let one = scaled_sum t (paper_part rules prices +ℤ group_part rules prices) (reviewer_part rules prices) in
     let two = scaled_sum t (paper_part rules prices) (group_part rules prices) in
     omega (arith, ints, whole, pairs, papers, groups, reviewers, one, two)
@@ -238,7 +238,7 @@ bound-is_score rules sieve potentials are flow round best =
     let reduced = flow_cost-reduced net flow potentials good round in
     let whole = bound-is_sum rules sieve potentials are in
     let each = sum_below-equal m (λ a. most_at (arc_at net a).floor (arc_at net a).room (gain potentials (arc_at net a))) (λ a. neg_ℤ (pos (slice_index flow a) *ℤ r a))
-      (λ a lt. optimal-most (slice_index flow a) (arc_at net a).floor (arc_at net a).room (r a) (round.floors a lt) (round.rooms a lt) (best.may_rise a lt) (best.may_fall a lt)) in
+    (λ a lt. optimal-most (slice_index flow a) (arc_at net a).floor (arc_at net a).room (r a) (round.floors a lt) (round.rooms a lt) (best.may_rise a lt) (best.may_fall a lt)) in
     omega (arith, ints, cost, reduced, whole, each, minus m (λ a. pos (slice_index flow a) *ℤ r a))
   where
     minus : (n : ℕ) (f : ℕ → ℤ) → sum_below n (λ i. neg_ℤ (f i)) ≡ neg_ℤ (sum_below n f)

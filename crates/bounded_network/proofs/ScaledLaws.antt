@@ -45,8 +45,8 @@ none-at_scale net marks scale good broken some flow round =
     let bound : ℕ → ℤ = λ a. pos (when (into a) (scale * (arc_at net a).floor)) -ℤ pos (when (out a) (scale * (arc_at net a).room)) in
     let given : ℕ → ℤ = λ a. pos (slice_index flow a) *ℤ (p (arc_at net a).head -ℤ p (arc_at net a).tail) in
     let nothing : sum_below m given ≡ pos 0 = rises-are-excesses net flow p good
-      ∙ sum_below-zero net.nodes (λ v. (pos (entering net flow v) *ℤ p v) -ℤ (pos (leaving net flow v) *ℤ p v))
-        (λ v b. rw (round.balanced v b) (omega (arith, ints))) in
+    ∙ sum_below-zero net.nodes (λ v. (pos (entering net flow v) *ℤ p v) -ℤ (pos (leaving net flow v) *ℤ p v))
+    (λ v b. rw (round.balanced v b) (omega (arith, ints))) in
     let less = sum_below-le m bound given (λ a b. bound_at_arc (is_marked marks (arc_at net a).tail) (is_marked marks (arc_at net a).head) (slice_index flow a) (scale * (arc_at net a).floor) (scale * (arc_at net a).room) (round.floors a b) (round.rooms a b)) in
     let parts = sum_below--ℤ m (λ a. pos (when (into a) (scale * (arc_at net a).floor))) (λ a. pos (when (out a) (scale * (arc_at net a).room))) in
     let one = sum_below-pos m (λ a. when (into a) (scale * (arc_at net a).floor)) in

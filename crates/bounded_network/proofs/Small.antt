@@ -47,38 +47,38 @@ network-of_small rules spans are small =
       few_nodes = omega arith;
       few_arcs = omega (arith, arc_count rules spans);
       each = each_arc rules spans (λ (arc : Arc) a. IsArc (node_count rules) arc)
-        (λ e lt. record {
-          tail = omega (arith, tail-below rules e are lt);
-          head = omega (arith, (are.pairs.each e lt).reviewer);
-          floor = (small.pairs e lt).ordered;
-          room = (small.pairs e lt).room;
-          cost_low = small.cost_low e lt;
-          cost_high = small.cost_high e lt;
-        })
-        (λ p lt. record {
-          tail = omega arith;
-          head = omega arith;
-          floor = (small.papers p lt).ordered;
-          room = (small.papers p lt).room;
-          cost_low = omega (arith, ints);
-          cost_high = omega (arith, ints);
-        })
-        (λ g lt. record {
-          tail = omega (arith, group-paper-below rules g are lt);
-          head = omega arith;
-          floor = (small.of_groups g lt).ordered;
-          room = (small.of_groups g lt).room;
-          cost_low = omega (arith, ints);
-          cost_high = omega (arith, ints);
-        })
-        (λ r lt. record {
-          tail = omega arith;
-          head = omega arith;
-          floor = (small.reviewers r lt).ordered;
-          room = (small.reviewers r lt).room;
-          cost_low = omega (arith, ints);
-          cost_high = omega (arith, ints);
-        });
+          (λ e lt. record {
+            tail = omega (arith, tail-below rules e are lt);
+            head = omega (arith, (are.pairs.each e lt).reviewer);
+            floor = (small.pairs e lt).ordered;
+            room = (small.pairs e lt).room;
+            cost_low = small.cost_low e lt;
+            cost_high = small.cost_high e lt;
+          })
+          (λ p lt. record {
+            tail = omega arith;
+            head = omega arith;
+            floor = (small.papers p lt).ordered;
+            room = (small.papers p lt).room;
+            cost_low = omega (arith, ints);
+            cost_high = omega (arith, ints);
+          })
+          (λ g lt. record {
+            tail = omega (arith, group-paper-below rules g are lt);
+            head = omega arith;
+            floor = (small.of_groups g lt).ordered;
+            room = (small.of_groups g lt).room;
+            cost_low = omega (arith, ints);
+            cost_high = omega (arith, ints);
+          })
+          (λ r lt. record {
+            tail = omega arith;
+            head = omega arith;
+            floor = (small.reviewers r lt).ordered;
+            room = (small.reviewers r lt).room;
+            cost_low = omega (arith, ints);
+            cost_high = omega (arith, ints);
+          });
     }
 
 -- ---- tickets
@@ -141,7 +141,7 @@ rounded-small left amount some few = record {
 pub sum-small : (rules : RulesValue) (shares : List ℕ) (test : ℕ → Bool) → AreRules rules → AreWords shares → shares_where rules shares test ≤ 2 ^ 50
 sum-small rules shares test are words =
     let most = count_below-at_most (length rules.pairs) (λ e. when (test e) (slice_index shares e)) 4294967296
-      (λ e lt. omega (arith, when-at_most (test e) (slice_index shares e), words e)) in
+    (λ e lt. omega (arith, when-at_most (test e) (slice_index shares e), words e)) in
     omega (arith, most, are.pairs.few)
 
 pub rounded-spans-small : (rules : RulesValue) (shares : List ℕ) (left : ℕ) → AreRules rules → 1 ≤ left → AreWords shares → AreSmall rules (rounded_spans rules shares left)

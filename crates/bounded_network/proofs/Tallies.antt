@@ -40,18 +40,18 @@ pub tally-more : (count : ℕ) (test : ℕ → ℕ → Bool) (amount : ℕ → �
 tally-more count test amount n totals a x tally lt here sum = record {
   long = length-set totals a x ∙ tally.long;
   sums = λ v b.
-    let next : n + 1 ≡ suc n = omega arith in
-    rw (next, here v) (elim (cases_eq a v) [
-      inl e ↦
-        let within : v < length totals = omega (arith, tally.long) in
-        let at : get_or (set totals v x) v 0 ≡ x = get_or-set_same totals v x 0 within in
-        let old : slice_index totals v ≡ count_below n (λ e. when (test v e) (amount e)) = tally.sums v b in
-        let from : x ≡ slice_index totals v + amount n = rw e at sum in
-        rw (e, eq-eqb v v refl) (omega (arith, at, old, from))
-    | inr ne ↦
-        let other : v ≡ a → ⊥ = λ q. ne (sym q) in
-        rw (ne_eqb a v ne) (omega (arith, get_or-set_other totals a v x 0 other, tally.sums v b))
-    ]);
+      let next : n + 1 ≡ suc n = omega arith in
+      rw (next, here v) (elim (cases_eq a v) [
+        | inl e ↦
+            let within : v < length totals = omega (arith, tally.long) in
+            let at : get_or (set totals v x) v 0 ≡ x = get_or-set_same totals v x 0 within in
+            let old : slice_index totals v ≡ count_below n (λ e. when (test v e) (amount e)) = tally.sums v b in
+            let from : x ≡ slice_index totals v + amount n = rw e at sum in
+            rw (e, eq-eqb v v refl) (omega (arith, at, old, from))
+        | inr ne ↦
+            let other : v ≡ a → ⊥ = λ q. ne (sym q) in
+            rw (ne_eqb a v ne) (omega (arith, get_or-set_other totals a v x 0 other, tally.sums v b))
+      ]);
 }
 
 -- one amount more, at no place
@@ -60,8 +60,8 @@ pub tally-skip : (count : ℕ) (test : ℕ → ℕ → Bool) (amount : ℕ → �
 tally-skip count test amount n totals tally none = record {
   long = tally.long;
   sums = λ v b.
-    let next : n + 1 ≡ suc n = omega arith in
-    rw (next, none v) (omega (arith, tally.sums v b));
+      let next : n + 1 ≡ suc n = omega arith in
+      rw (next, none v) (omega (arith, tally.sums v b));
 }
 
 -- all amounts
@@ -70,4 +70,4 @@ pub tally-all : (count : ℕ) (test : ℕ → ℕ → Bool) (amount : ℕ → �
 tally-all count test amount n totals tally =
     let f : ℕ → ℕ = λ v. count_below n (λ e. when (test v e) (amount e)) in
     same_number_lists totals (listed count f) (tally.long ∙ sym (length-listed count f))
-      (λ v lt. let b : v < count = omega (arith, tally.long) in tally.sums v b ∙ sym (listed-at count v f 0 b))
+    (λ v lt. let b : v < count = omega (arith, tally.long) in tally.sums v b ∙ sym (listed-at count v f 0 b))

@@ -8,8 +8,8 @@ ghost use Rattle.bounded_network.specs.Spans.{spans_of, CanDivide};
 ghost use Rattle.bounded_network.specs.Totals.{AreTotals};
 
 use crate::bounds::{group_span, pair_span, paper_span, reviewer_span};
-use crate::network::Arc;
 use crate::layout::{group_node_of, hub_of, reviewer_node_of, tail};
+use crate::network::Arc;
 use crate::spans::Amounts;
 use crate::totals::Totals;
 use match_rules::{Rules, Sieve};

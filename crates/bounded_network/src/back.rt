@@ -183,12 +183,7 @@ fn reviewers_across(alloc: Global, rules: &Rules, marks: &[bool]) -> Result<Vec<
 /// than the hub, into them where they are the marked ones, and out of them
 /// where the hub is marked. What has to pass it is the floors that enter the
 /// marks, and what may pass it the rooms that leave them.
-pub fn cut_of(
-    alloc: Global,
-    rules: &Rules,
-    sieve: Sieve,
-    marks: &[bool],
-) -> Result<Cut, AllocError>
+pub fn cut_of(alloc: Global, rules: &Rules, sieve: Sieve, marks: &[bool]) -> Result<Cut, AllocError>
     requires long { length marks.now ≡ node_count rules.now }
     requires broken { AreViolated (network_of rules.now (ticket_spans rules.now sieve)) marks.now }
     ensures value { IfOk result (λ cut. cut ≡ cut_in rules.now marks.now) }

@@ -6,8 +6,8 @@ ghost use Rattle.bounded_network.specs.Compile.{network_of, Compiles, Serves};
 ghost use Rattle.bounded_network.specs.Spans.{spans_of, CanDivide};
 
 use crate::arcs::arcs_of;
-use crate::network::Network;
 use crate::layout::hub_of;
+use crate::network::Network;
 use crate::spans::Amounts;
 use crate::totals::totals_of;
 use match_rules::{Rules, Sieve};

@@ -50,5 +50,4 @@ pub fn worked_networks()
     ensures above { rounded 3 7 ≡ span 2 3 }
     ensures rounded_pair { arc_at (network_of (small 7000) (rounded_spans (small 7000) (7000 ∷ (3000 ∷ (3000 ∷ (7000 ∷ [])))) 10000)) 0 ≡ arc 0 2 0 1 (pos 0) }
     ensures rounded_paper { arc_at (network_of (small 7000) (rounded_spans (small 7000) (7000 ∷ (3000 ∷ (3000 ∷ (7000 ∷ [])))) 10000)) 4 ≡ arc 4 0 1 1 (pos 0) }
-{
-}
+{}

@@ -11,6 +11,8 @@ mod layout;
 mod limits;
 mod network;
 mod spans;
+#[cfg(test)]
+mod tests;
 mod totals;
 
 pub use back::{cut_of, prices_of, shares_of};

@@ -28,4 +28,4 @@ returns-clause-room c =
 pub returns-clause-violated : goal.returns-clause-violated
 returns-clause-violated c =
     subst (λ cut. Violated c.args.rules.now c.args.sieve cut) (sym (returns-clause-value c))
-      (cut-violated c.args.rules.now c.args.sieve c.args.marks.now c.hub_of.ensures.kept c.requires.broken)
+    (cut-violated c.args.rules.now c.args.sieve c.args.marks.now c.hub_of.ensures.kept c.requires.broken)

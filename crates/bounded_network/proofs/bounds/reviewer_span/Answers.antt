@@ -18,5 +18,5 @@ returns-in-Rounded c =
     let sums : AreSums all c.in-Rounded.shares.now c.args.totals.now = rw c.in-Rounded.is at c.requires.totals in
     let found = rw sums.reviewers at c.index.ensures in
     let is : c.index.result.now ≡ reviewer_shares all c.in-Rounded.shares.now c.args.r =
-      found ∙ listed-at (length all.reviewers) c.args.r (reviewer_shares all c.in-Rounded.shares.now) c.index.result.now c.requires.within in
+    found ∙ listed-at (length all.reviewers) c.args.r (reviewer_shares all c.in-Rounded.shares.now) c.index.result.now c.requires.within in
     rw c.in-Rounded.is (c.rounded_span.ensures ∙ ap (rounded c.in-Rounded.left) is)

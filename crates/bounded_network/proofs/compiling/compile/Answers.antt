@@ -12,7 +12,7 @@ unreachable-requires c =
     let all : RulesValue = c.args.rules.now in
     let are : AreRules all = c.hub_of.ensures.kept in
     let good : IsNetwork (network_of all (spans_of all c.args.sieve c.args.amounts)) =
-      within-limits all c.args.sieve c.args.amounts c.in_ok-totals.totals are c.requires.divides c.in_ok-totals.ensures in
+    within-limits all c.args.sieve c.args.amounts c.in_ok-totals.totals are c.requires.divides c.in_ok-totals.ensures in
     let exact = rw (c.hub_of.ensures.value, c.in_ok-arcs.ensures) at c.in-Err.ensures.exact in
     absurd (cc (exact.1 good))
 
@@ -28,4 +28,4 @@ returns-clause-serves c =
     let all : RulesValue = c.args.rules.now in
     let are : AreRules all = c.hub_of.ensures.kept in
     rw (c.in-Ok.ensures.value, c.hub_of.ensures.value, c.in_ok-arcs.ensures)
-      (serves all c.args.sieve c.args.amounts c.in_ok-totals.totals are c.requires.divides c.in_ok-totals.ensures)
+    (serves all c.args.sieve c.args.amounts c.in_ok-totals.totals are c.requires.divides c.in_ok-totals.ensures)

@@ -11,7 +11,7 @@ add-requires-clause-fits c =
     let are : AreRules all = c.group_count.ensures.kept in
     let words : AreWords c.args.shares.now = search rules in
     tally-small (group_count all) (is_in_group all) (slice_index c.args.shares.now) c.loop-e.e c.loop-e.totals.items c.in-Some.group
-      c.loop-e.invariant words (omega (arith, are.pairs.few)) c.in-Some.ensures.below
+    c.loop-e.invariant words (omega (arith, are.pairs.few)) c.in-Some.ensures.below
 
 pub returns : goal.returns
 returns c =

@@ -13,8 +13,8 @@ add-requires-clause-fits c =
     let words : AreWords c.args.shares.now = search rules in
     let below : e < length all.pairs = omega (arith, c.pairs-pairs.ensures.len) in
     rw c.pairs-pairs.ensures.value
-      (tally-small (length all.papers) (λ p k. (pair_at all k).paper == p) (slice_index c.args.shares.now) e c.loop-e.totals.items (pair_at all e).paper
-        c.loop-e.invariant words (omega (arith, are.pairs.few)) (are.pairs.each e below).paper)
+    (tally-small (length all.papers) (λ p k. (pair_at all k).paper == p) (slice_index c.args.shares.now) e c.loop-e.totals.items (pair_at all e).paper
+    c.loop-e.invariant words (omega (arith, are.pairs.few)) (are.pairs.each e below).paper)
 
 pub loop-e-preserved : goal.loop-e-preserved
 loop-e-preserved c =
@@ -24,8 +24,8 @@ loop-e-preserved c =
     let below : e < length all.pairs = omega (arith, c.pairs-pairs.ensures.len) in
     let added = rw c.pairs-pairs.ensures.value at c.add.ensures in
     rw added
-      (tally-more (length all.papers) (λ p k. (pair_at all k).paper == p) (slice_index c.args.shares.now) e c.loop-e.totals.items (pair_at all e).paper _
-        c.loop-e.invariant (are.pairs.each e below).paper (λ v. refl) refl)
+    (tally-more (length all.papers) (λ p k. (pair_at all k).paper == p) (slice_index c.args.shares.now) e c.loop-e.totals.items (pair_at all e).paper _
+    c.loop-e.invariant (are.pairs.each e below).paper (λ v. refl) refl)
 
 pub returns-clause-sums : goal.returns-clause-sums
 returns-clause-sums c =

@@ -13,8 +13,8 @@ add-requires-clause-fits c =
     let words : AreWords c.args.shares.now = search rules in
     let below : e < length all.pairs = omega (arith, c.pairs-pairs.ensures.len) in
     rw c.pairs-pairs.ensures.value
-      (tally-small (length all.reviewers) (λ p k. (pair_at all k).reviewer == p) (slice_index c.args.shares.now) e c.loop-e.totals.items (pair_at all e).reviewer
-        c.loop-e.invariant words (omega (arith, are.pairs.few)) (are.pairs.each e below).reviewer)
+    (tally-small (length all.reviewers) (λ p k. (pair_at all k).reviewer == p) (slice_index c.args.shares.now) e c.loop-e.totals.items (pair_at all e).reviewer
+    c.loop-e.invariant words (omega (arith, are.pairs.few)) (are.pairs.each e below).reviewer)
 
 pub loop-e-preserved : goal.loop-e-preserved
 loop-e-preserved c =
@@ -24,8 +24,8 @@ loop-e-preserved c =
     let below : e < length all.pairs = omega (arith, c.pairs-pairs.ensures.len) in
     let added = rw c.pairs-pairs.ensures.value at c.add.ensures in
     rw added
-      (tally-more (length all.reviewers) (λ p k. (pair_at all k).reviewer == p) (slice_index c.args.shares.now) e c.loop-e.totals.items (pair_at all e).reviewer _
-        c.loop-e.invariant (are.pairs.each e below).reviewer (λ v. refl) refl)
+    (tally-more (length all.reviewers) (λ p k. (pair_at all k).reviewer == p) (slice_index c.args.shares.now) e c.loop-e.totals.items (pair_at all e).reviewer _
+    c.loop-e.invariant (are.pairs.each e below).reviewer (λ v. refl) refl)
 
 pub returns : goal.returns
 returns c =
