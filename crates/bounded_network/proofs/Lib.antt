@@ -1,0 +1,16 @@
+pub mod BackLaws
+pub mod Compiled
+pub mod Counts
+pub mod CutLaws
+pub mod Fitting
+pub mod Laws
+pub mod Nodes
+pub mod Parts
+pub mod PriceLaws
+pub mod Scaled
+pub mod ScaledLaws
+pub mod Serving
+pub mod Small
+pub mod Sums
+pub mod Tallies
+pub mod Worked

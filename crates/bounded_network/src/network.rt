@@ -1,0 +1,76 @@
+ghost use Rattle.std.specs.Prelude.{◌≡◌, ◌<◌, ◌≤◌, ◌↔◌, ℕ, List, length, IsOk, IfOk, IfErr, IsTrue, slice_index_or};
+
+use crate::limits::is_within;
+use std::marker::Model;
+
+/// An arc: it carries an amount from its tail to its head, at least its floor and at most its room, at its cost a unit.
+#[derive(Clone, Copy)]
+pub struct Arc {
+    pub tail: u32,
+    pub head: u32,
+    pub floor: u64,
+    pub room: u64,
+    pub cost: i64,
+}
+
+/// The greatest number of nodes of a network.
+pub const MAX_NODES: u32 = 253_001;
+
+/// The greatest number of arcs of a network.
+pub const MAX_ARCS: usize = 503_000;
+
+/// The greatest room of an arc, 2^50.
+pub const MAX_ROOM: u64 = 1_125_899_906_842_624;
+
+/// The greatest magnitude of a cost.
+pub const MAX_COST: i64 = 8_000_000_000;
+
+/// A network: nodes, counted from 0, and arcs between them. A circulation gives each arc an amount between its floor
+/// and its room, so that at each node as much enters as leaves.
+#[derive(Drop)]
+pub struct Network {
+    nodes: u32,
+    arcs: Vec<Arc>,
+}
+
+impl Model for Network {
+    ghost use Rattle.bounded_network.specs.Network.{NetworkValue, IsNetwork};
+
+    ghost Value = { NetworkValue };
+
+    ghost view = { λ n. record { nodes = n.nodes; arcs = n.arcs.items } };
+
+    ghost invariant = { λ n. IsNetwork (record { nodes = n.nodes; arcs = n.arcs.items }) };
+}
+
+impl Network {
+    ghost use Rattle.bounded_network.specs.Network.{NetworkValue, IsNetwork};
+
+    /// The network of the arcs, which are handed back where a limit is broken. It takes no memory.
+    pub fn new(nodes: u32, arcs: Vec<Arc>) -> Result<Network, Vec<Arc>>
+        ensures exact { IsOk result ↔ IsNetwork (record { nodes = nodes; arcs = arcs.items }) }
+        ensures value { IfOk result (λ net. net ≡ record { nodes = nodes; arcs = arcs.items }) }
+        ensures handed_back { IfErr result (λ same. same.items ≡ arcs.items) }
+    {
+        let within = is_within(nodes, &arcs);
+        if within {
+            Ok(Network { nodes, arcs })
+        } else {
+            Err(arcs)
+        }
+    }
+
+    pub fn nodes(&self) -> u32
+        ensures value { result ≡ self.now.nodes }
+        ensures kept { IsNetwork self.now }
+    {
+        self.nodes
+    }
+
+    pub fn arcs(&self) -> &[Arc]
+        ensures value { result.now ≡ self.now.arcs }
+        ensures kept { IsNetwork self.now }
+    {
+        self.arcs.as_slice()
+    }
+}

@@ -1,0 +1,93 @@
+// The sums of shares that rounded bounds are made of.
+
+ghost use Rattle.std.specs.Prelude.{◌≡◌, ◌+◌, ◌<◌, ◌≤◌, length, IfOk, slice_index, slice_set};
+ghost use Rattle.match_rules.specs.Groups.{group_count};
+ghost use Rattle.match_rules.specs.SharesFit.{paper_shares, group_shares, reviewer_shares};
+ghost use Rattle.bounded_network.specs.Compile.{listed};
+ghost use Rattle.bounded_network.specs.Spans.{CanDivide};
+ghost use Rattle.bounded_network.specs.Totals.{AreWords, AreTotals};
+
+use crate::spans::Amounts;
+use match_rules::Rules;
+use std::alloc::{AllocError, Global};
+
+/// The sums of the papers, groups and reviewers by their places, where
+/// amounts are rounded; nothing for tickets.
+#[derive(Drop)]
+pub struct Totals {
+    pub papers: Vec<u64>,
+    pub of_groups: Vec<u64>,
+    pub reviewers: Vec<u64>,
+}
+
+// Adds an amount to one sum.
+fn add(totals: &mut Vec<u64>, at: usize, amount: u32)
+    requires within { at < length totals.old.items }
+    requires fits { slice_index totals.old.items at ≤ 1125899906842624 }
+    ensures { totals.new.items ≡ slice_set totals.old.items at (slice_index totals.old.items at + amount) }
+{
+    totals[at] += u64::from(amount);
+}
+
+// The sums of the papers.
+fn of_papers(alloc: Global, rules: &Rules, shares: &[u32]) -> Result<Vec<u64>, AllocError>
+    requires { length shares.now ≡ length rules.now.pairs }
+    ensures words { IfOk result (λ totals. AreWords shares.now) }
+    ensures sums { IfOk result (λ totals. totals.items ≡ listed (length rules.now.papers) (paper_shares rules.now shares.now)) }
+{
+    let mut totals = vec![in alloc; 0u64; rules.papers().len()]?;
+    let pairs = rules.pairs();
+    for e in 0..pairs.len() {
+        add(&mut totals, pairs[e].paper as usize, shares[e]);
+    }
+    Ok(totals)
+}
+
+// The sums of the groups.
+fn of_groups(alloc: Global, rules: &Rules, shares: &[u32]) -> Result<Vec<u64>, AllocError>
+    requires { length shares.now ≡ length rules.now.pairs }
+    ensures { IfOk result (λ totals. totals.items ≡ listed (group_count rules.now) (group_shares rules.now shares.now)) }
+{
+    let mut totals = vec![in alloc; 0u64; rules.group_count() as usize]?;
+    for e in 0..shares.len() {
+        if let Some(group) = rules.group_of(e as u32) {
+            add(&mut totals, group as usize, shares[e]);
+        }
+    }
+    Ok(totals)
+}
+
+// The sums of the reviewers.
+fn of_reviewers(alloc: Global, rules: &Rules, shares: &[u32]) -> Result<Vec<u64>, AllocError>
+    requires { length shares.now ≡ length rules.now.pairs }
+    ensures { IfOk result (λ totals. totals.items ≡ listed (length rules.now.reviewers) (reviewer_shares rules.now shares.now)) }
+{
+    let mut totals = vec![in alloc; 0u64; rules.reviewers().len()]?;
+    let pairs = rules.pairs();
+    for e in 0..pairs.len() {
+        add(&mut totals, pairs[e].reviewer as usize, shares[e]);
+    }
+    Ok(totals)
+}
+
+/// The sums that the bounds of such amounts are made of.
+pub fn totals_of(alloc: Global, rules: &Rules, amounts: Amounts) -> Result<Totals, AllocError>
+    requires { CanDivide rules.now amounts }
+    ensures { IfOk result (AreTotals rules.now amounts.entry) }
+{
+    match amounts {
+        Amounts::Tickets => Ok(Totals {
+            papers: Vec::new(alloc),
+            of_groups: Vec::new(alloc),
+            reviewers: Vec::new(alloc),
+        }),
+        Amounts::Rounded { shares, left: _ } => {
+            let shares = shares.as_slice();
+            Ok(Totals {
+                papers: of_papers(alloc, rules, shares)?,
+                of_groups: of_groups(alloc, rules, shares)?,
+                reviewers: of_reviewers(alloc, rules, shares)?,
+            })
+        }
+    }
+}

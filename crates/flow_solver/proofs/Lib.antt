@@ -1,0 +1,4 @@
+pub mod Members
+pub mod Shifts
+pub mod Starts
+pub mod States

@@ -1,0 +1,84 @@
+// The state of the solver.
+ghost use Rattle.std.specs.Prelude.{◌≡◌, ◌+◌, ◌*◌, ◌^◌, ◌<◌, ◌≤◌, ◌==◌, length, ℕ, ℤ, pos, negsuc, ◌≤ℤ◌, ◌+ℤ◌, ◌-ℤ◌, slice_index, slice_set, IfOk};
+ghost use Rattle.bounded_network.specs.Network.{NetworkValue, IsNetwork, arc_at, potential_at};
+ghost use Rattle.flow_solver.specs.State.{IsWithin, excess_at, IsState, IsShifted, AreFallen};
+ghost use Rattle.flow_solver.specs.Step.{start_of, end_of, left_on, step_reduced, carried};
+
+use bounded_network::Network;
+
+use crate::step::{Step, arc_of, carry_on, end, start};
+
+/// An amount for each arc, the excess of each node, what enters it less what leaves it, and a potential for each node.
+#[derive(Drop)]
+pub struct State {
+    pub flow: Vec<u64>,
+    pub excess: Vec<i128>,
+    pub potentials: Vec<i64>,
+}
+
+
+// What is left of an excess when the amount is gone.
+fn less(excess: i128, amount: u64) -> i128
+    requires { IsWithin (2 ^ 100) excess }
+    ensures { result ≡ excess -ℤ pos amount }
+{
+    excess - amount as i128
+}
+
+// An excess with the amount added.
+fn more(excess: i128, amount: u64) -> i128
+    requires { IsWithin (2 ^ 101) excess }
+    ensures { result ≡ excess +ℤ pos amount }
+{
+    excess + amount as i128
+}
+
+/// Moves the amount from one excess to another.
+pub fn shift(excess: &mut [i128], from: u32, to: u32, amount: u64)
+    requires from_in { from < length excess.old }
+    requires to_in { to < length excess.old }
+    requires within { (v : ℕ) → IsWithin (2 ^ 100) (excess_at excess.old v) }
+    ensures shifted { IsShifted excess.old excess.new from to amount }
+    ensures long { length excess.new ≡ length excess.old }
+{
+    excess[from as usize] = less(excess[from as usize], amount);
+    excess[to as usize] = more(excess[to as usize], amount);
+}
+
+/// Carries the amount over the step.
+pub fn carry(net: &Network, state: &mut State, step: Step, amount: u64)
+    requires arc_in { step.arc < length net.now.arcs }
+    requires fits { amount ≤ left_on (arc_at net.now step.arc) (slice_index state.old.flow.items step.arc) step.forward }
+    requires tight { step_reduced (arc_at net.now step.arc) step.forward state.old.potentials.items ≡ pos 0 }
+    requires kept { IsState net.now state.old.flow.items state.old.excess.items state.old.potentials.items }
+    ensures kept { IsState net.now state.new.flow.items state.new.excess.items state.new.potentials.items }
+    ensures shifted { IsShifted state.old.excess.items state.new.excess.items (start_of (arc_at net.now step.arc) step.forward) (end_of (arc_at net.now step.arc) step.forward) amount }
+    ensures flow { state.new.flow.items ≡ slice_set state.old.flow.items step.arc (carried (slice_index state.old.flow.items step.arc) step.forward amount) }
+    ensures potentials { state.new.potentials.items ≡ state.old.potentials.items }
+{
+    let arc = arc_of(net, step.arc);
+    let had = state.flow[step.arc as usize];
+    state.flow[step.arc as usize] = carry_on(arc, had, step.forward, amount);
+    shift(&mut state.excess, start(arc, step.forward), end(arc, step.forward), amount);
+}
+
+// A potential lowered by the amount.
+fn lower(potential: i64, amount: u64) -> i64
+    requires small { IsWithin (2 ^ 60) potential }
+    requires little { amount < 2 ^ 61 }
+    ensures { result ≡ potential -ℤ pos amount }
+{
+    potential - amount as i64
+}
+
+/// Lowers each potential by what the node's distance lacks to the depth.
+pub fn fall(potentials: &mut [i64], distances: &[u64], depth: u64)
+    requires long { length distances.now ≡ length potentials.old }
+    requires small { (v : ℕ) → v < length potentials.old → IsWithin (2 ^ 60) (potential_at potentials.old v) }
+    requires shallow { depth < 2 ^ 61 }
+    ensures { AreFallen potentials.old potentials.new distances.now depth }
+{
+    for node in 0..potentials.len() {
+        potentials[node] = lower(potentials[node], depth.saturating_sub(distances[node]));
+    }
+}
