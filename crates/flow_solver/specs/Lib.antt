@@ -1,3 +1,5 @@
+pub mod Links
 pub mod Queue
+pub mod Search
 pub mod State
 pub mod Step

@@ -1,7 +1,9 @@
 // A circulation of least cost, with the potentials that prove it, or marks that prove that there is none.
 #![tactic(auto)]
 
+mod links;
 mod queue;
+mod search;
 mod start;
 mod state;
 mod step;
