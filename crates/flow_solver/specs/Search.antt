@@ -1,7 +1,8 @@
 -- The search for the nearest node that lacks something, by reduced costs.
-use Rattle.std.specs.Prelude.{ℕ, ◌≡◌, ◌≢◌, ◌+◌, ◌-◌, ◌*◌, ◌<◌, ◌≤◌, Bool, true, false, List, length, slice_index, slice_index_or, count_by, ℤ, pos, ◌+ℤ◌, ◌-ℤ◌, ◌≤ℤ◌, ◌<ℤ◌}
+use Rattle.std.specs.Prelude.{ℕ, ◌≡◌, ◌≢◌, ◌+◌, ◌-◌, ◌*◌, ◌<◌, ◌≤◌, Bool, true, false, List, length, slice_index, slice_index_or, ℤ, pos, ◌+ℤ◌, ◌-ℤ◌, ◌≤ℤ◌, ◌<ℤ◌}
 use Rattle.std.specs.BinaryHeap.{heap_items}
 use Rattle.std.specs.declared.cmp.Reverse.{Reverse}
+use Rattle.match_rules.specs.Sums.{count_below, when}
 use Rattle.bounded_network.specs.Network.{NetworkValue, arc_at, potential_at}
 use Rattle.flow_solver.specs.declared.step.Step.{Step}
 use Rattle.flow_solver.specs.declared.state.State.{State}
@@ -53,7 +54,7 @@ IsRelaxedFrom net state distances v bound =
 -- the tree of the settled nodes
 pub record IsTree (net : NetworkValue) (state : State) (source : ℕ) (tree : List Reach) (distances : List ℕ) (settled : List Bool) : Type 0 where
   pub settled_long : length settled ≡ net.nodes
-  pub counted : count_by (λ b. b) settled ≡ length tree
+  pub counted : count_below net.nodes (λ v. when (is_settled settled v) 1) ≡ length tree
   pub some : 0 < length tree
   pub root : (reach_at tree 0).node ≡ source
   pub root_distance : distance_at distances source ≡ 0
