@@ -85,3 +85,10 @@ pub record IsSearchOf (net : NetworkValue) (state : State) (source node : ℕ) (
 abbrev pub IsSearch : NetworkValue → State → Search → Type 0
 IsSearch net state search =
     IsSearchOf net state search.source search.node search.tree.items search.reaches.items search.distances.items search.settled.items (heap_items search.queue.waiting)
+
+-- the settled nodes and their tree are the same
+pub record SameTree (old new : Search) : Type 0 where
+  pub source : new.source ≡ old.source
+  pub node : new.node ≡ old.node
+  pub tree : new.tree.items ≡ old.tree.items
+  pub settled : new.settled.items ≡ old.settled.items

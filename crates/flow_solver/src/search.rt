@@ -1,8 +1,18 @@
 // The search for the nearest node that lacks something.
-ghost use Rattle.std.specs.Prelude.{◌≡◌, ◌<◌, ◌≤◌, length, ℕ, IfOk};
+ghost use Rattle.std.specs.Prelude.{◌≡◌, ◌≢◌, ◌+◌, ◌-◌, ◌^◌, ◌<◌, ◌≤◌, ◌⊎◌, length, ℕ, ℤ, pos, ◌+ℤ◌, ◌-ℤ◌, ◌≤ℤ◌, ◌<ℤ◌, IfOk, IfSome, IfNone, OnOk, IsTrue, true, false, slice_set, slice_index};
+ghost use Rattle.std.specs.BinaryHeap.{heap_items, heap_len};
+ghost use Rattle.bounded_network.specs.Network.{NetworkValue, IsNetwork, arc_at, potential_at};
+ghost use Rattle.flow_solver.specs.Queue.{Waits};
+ghost use Rattle.flow_solver.specs.State.{IsWithin, IsState, excess_at};
+ghost use Rattle.flow_solver.specs.Step.{start_of, end_of, step_cost, left_on, step_reduced};
+ghost use Rattle.flow_solver.specs.Search.{IsSearch, IsRelaxedFrom, IsReach, SameTree, distance_at, reach_at, is_settled};
 
-use crate::queue::Queue;
-use crate::step::Step;
+use bounded_network::{Arc, Network};
+use std::alloc::{AllocError, Global};
+
+use crate::queue::{Queue, push};
+use crate::state::State;
+use crate::step::{Step, arc_of, cost, end, left};
 
 /// How a node is reached: from the node at a place of the tree, by a step, and how much can be carried on the way.
 #[derive(Clone, Copy)]
@@ -23,4 +33,93 @@ pub struct Search {
     pub distances: Vec<u64>,
     pub settled: Vec<bool>,
     pub queue: Queue,
+}
+
+// The reduced cost of a step from its cost and the potentials at its ends.
+fn reduced(cost: i64, from: i64, to: i64) -> u64
+    requires cost_small { IsWithin 8000000000 cost }
+    requires from_small { IsWithin (2 ^ 52) from }
+    requires to_small { IsWithin (2 ^ 52) to }
+    requires not_negative { pos 0 ≤ℤ ((cost +ℤ from) -ℤ to) }
+    ensures { pos result ≡ (cost +ℤ from) -ℤ to }
+{
+    (cost + from - to) as u64
+}
+
+// The distance of the step's end by way of the step, from the node that was settled last.
+fn over(net: &Network, state: &State, search: &Search, step: Step) -> u64
+    requires kept { IsState net.now state.now.flow.items state.now.excess.items state.now.potentials.items }
+    requires search { IsSearch net.now state.now search.now }
+    requires arc_in { step.arc < length net.now.arcs }
+    requires starts { start_of (arc_at net.now step.arc) step.forward ≡ search.now.node }
+    requires room { 0 < left_on (arc_at net.now step.arc) (slice_index state.now.flow.items step.arc) step.forward }
+    ensures { pos result ≡ pos (distance_at search.now.distances.items search.now.node) +ℤ step_reduced (arc_at net.now step.arc) step.forward state.now.potentials.items }
+{
+    let arc = arc_of(net, step.arc);
+    let from = state.potentials[search.node as usize];
+    let to = state.potentials[end(arc, step.forward) as usize];
+    search.distances[search.node as usize] + reduced(cost(arc, step.forward), from, to)
+}
+
+// Notes that the node is reached at the distance.
+fn note(search: &mut Search, to: u32, distance: u64, reach: Reach) -> Result<(), AllocError>
+    requires distances_in { to < length search.old.distances.items }
+    requires reaches_in { to < length search.old.reaches.items }
+    ensures same { OnOk result (SameTree search.old search.new) }
+    ensures distances { OnOk result (search.new.distances.items ≡ slice_set search.old.distances.items to distance) }
+    ensures reaches { OnOk result (search.new.reaches.items ≡ slice_set search.old.reaches.items to reach) }
+    ensures added { OnOk result (Waits (heap_items search.new.queue.waiting) distance to) }
+    ensures kept { OnOk result ((d v : ℕ) → Waits (heap_items search.old.queue.waiting) d v → Waits (heap_items search.new.queue.waiting) d v) }
+    ensures only { OnOk result ((d v : ℕ) → Waits (heap_items search.new.queue.waiting) d v → Waits (heap_items search.old.queue.waiting) d v ⊎ ((d ≡ distance) × (v ≡ to))) }
+{
+    search.distances[to as usize] = distance;
+    search.reaches[to as usize] = reach;
+    push(&mut search.queue, distance, to)
+}
+
+// How the step's end is reached by the step.
+fn by(search: &Search, step: Step, to: u32, left: u64) -> Reach
+    requires some { 0 < length search.now.tree.items }
+    requires few { length search.now.tree.items < 2 ^ 32 }
+    ensures node { result.node ≡ to }
+    ensures from { result.from ≡ length search.now.tree.items - 1 }
+    ensures step { result.step ≡ step }
+    ensures left { result.width ≤ left }
+    ensures narrow { result.width ≤ (reach_at search.now.tree.items (length search.now.tree.items - 1)).width }
+    ensures width { 0 < left → 0 < (reach_at search.now.tree.items (length search.now.tree.items - 1)).width → 0 < result.width }
+{
+    let place = search.tree.len() - 1;
+    Reach {
+        node: to,
+        from: place as u32,
+        step,
+        width: search.tree[place].width.min(left),
+    }
+}
+
+// Relaxes a step from the node that was settled last.
+fn relax(net: &Network, state: &State, search: &mut Search, step: Step) -> Result<(), AllocError>
+    requires kept { IsState net.now state.now.flow.items state.now.excess.items state.now.potentials.items }
+    requires search { IsSearch net.now state.now search.old }
+    requires arc_in { step.arc < length net.now.arcs }
+    requires starts { start_of (arc_at net.now step.arc) step.forward ≡ search.old.node }
+    ensures same { OnOk result (SameTree search.old search.new) }
+    ensures search { OnOk result (IsSearch net.now state.now search.new) }
+    ensures lower { OnOk result ((v : ℕ) → distance_at search.new.distances.items v ≤ distance_at search.old.distances.items v) }
+    ensures stays { OnOk result (distance_at search.new.distances.items search.old.node ≡ distance_at search.old.distances.items search.old.node) }
+    ensures relaxed { OnOk result (0 < left_on (arc_at net.now step.arc) (slice_index state.now.flow.items step.arc) step.forward → pos (distance_at search.new.distances.items (end_of (arc_at net.now step.arc) step.forward)) ≤ℤ (pos (distance_at search.old.distances.items search.old.node) +ℤ step_reduced (arc_at net.now step.arc) step.forward state.now.potentials.items)) }
+{
+    let arc = arc_of(net, step.arc);
+    let left = left(arc, state.flow[step.arc as usize], step.forward);
+    if left == 0 {
+        return Ok(());
+    }
+    let to = end(arc, step.forward);
+    let distance = over(net, state, search, step);
+    if distance >= search.distances[to as usize] {
+        return Ok(());
+    }
+    let reach = by(search, step, to, left);
+    note(search, to, distance, reach)?;
+    Ok(())
 }
