@@ -3,16 +3,18 @@ use Rattle.std.proofs.Common.{◌≡◌, ◌≢◌, ℕ, ◌+◌, ◌-◌, ◌*�
 use Rattle.std.specs.Prelude.{ℤ, pos, ◌+ℤ◌, ◌-ℤ◌, ◌≤ℤ◌, ◌<ℤ◌, slice_index, slice_set}
 use Rattle.std.specs.declared.cmp.Reverse.{Reverse}
 use Rattle.std.proofs.lemmas.Int.{ints}
-use Rattle.std.proofs.lemmas.Bool.{cases_Bool}
+use Rattle.std.proofs.lemmas.Bool.{cases_Bool, cases_order}
 use Rattle.std.proofs.lemmas.List.{length-set}
 use Rattle.bounded_network.specs.Network.{NetworkValue, IsNetwork, arc_at, potential_at}
 use Rattle.flow_solver.specs.declared.state.State.{State}
 use Rattle.flow_solver.specs.declared.step.Step.{Step}
 use Rattle.flow_solver.specs.declared.search.Reach.{Reach}
+use Rattle.flow_solver.specs.declared.search.Search.{Search}
 use Rattle.flow_solver.specs.Queue.{Waits}
 use Rattle.flow_solver.specs.Step.{start_of, end_of, left_on, step_reduced}
+use Rattle.flow_solver.specs.Links.{IsBound}
 use Rattle.flow_solver.specs.State.{IsState}
-use Rattle.flow_solver.specs.Search.{distance_at, reach_at, no_reach, is_settled, IsReach, IsSearchOf, IsRelaxedFrom}
+use Rattle.flow_solver.specs.Search.{distance_at, reach_at, no_reach, is_settled, IsReach, IsSearchOf, IsRelaxed, IsRelaxedFrom, SameTree}
 use Rattle.flow_solver.proofs.Searches.{IsStateOf, step_not_negative, IsLowered, IsLowered-set, IsLowered-le, IsSearchOf-lower, settled_apart}
 use Rattle.flow_solver.proofs.Bounds.{end_in}
 
@@ -74,3 +76,33 @@ module _ (net : NetworkValue) (state : State) (source node : ℕ) (tree reaches 
         (subst (λ (r : Reach). IsReach net state tree (slice_set distances to d) (length tree) r to) (sym at) (to_reached reach node_is from_is step_is some left narrow))
         (λ v ne. get_or-set_other reaches to v reach no_reach ne)
         added stays only
+
+-- a relaxed step stays relaxed as distances fall, but not that of its start
+pub IsRelaxed-lower : (net : NetworkValue) (state : State) (old new : List ℕ) (v a : ℕ) (forward : Bool) → ((u : ℕ) → distance_at new u ≤ distance_at old u) → distance_at new v ≡ distance_at old v
+    → IsRelaxed net state old v a forward → IsRelaxed net state new v a forward
+IsRelaxed-lower net state old new v a forward less same relaxed starts room =
+    let h = relaxed starts room in
+    let l = less (end_of (arc_at net a) forward) in
+    omega (arith, ints, h, l, same)
+
+-- a step starts at its tail or its head
+step_at : (net : NetworkValue) (a v : ℕ) (forward : Bool) → start_of (arc_at net a) forward ≡ v → (arc_at net a).tail ≢ v → (arc_at net a).head ≢ v → ⊥
+step_at net a v true starts not_tail not_head = not_tail starts
+step_at net a v false starts not_tail not_head = not_head starts
+
+-- from a bound to the bound before it
+pub IsRelaxedFrom-more : (net : NetworkValue) (state : State) (old new : List ℕ) (v place bound : ℕ) → ((u : ℕ) → distance_at new u ≤ distance_at old u) → distance_at new v ≡ distance_at old v
+    → ((forward : Bool) → IsRelaxed net state new v place forward) → IsBound net v place bound → IsRelaxedFrom net state old v (place + 1) → IsRelaxedFrom net state new v bound
+IsRelaxedFrom-more net state old new v place bound less same here between relaxed a forward a_in from = elim (cases_order a place) [
+    inl e ↦ rw e (here forward)
+  | inr other ↦ elim other [
+      inl below ↦ λ starts room. let none = between.none_between a from below in absurd (step_at net a v forward starts none.0 none.1)
+    | inr above ↦ IsRelaxed-lower net state old new v a forward less same (relaxed a forward a_in (omega arith))
+    ]
+  ]
+
+-- twice the same tree
+pub SameTree-then : (a b c : Search) → SameTree a b → SameTree b c → SameTree a c
+SameTree-then a b c one two = record {
+    source = two.source ∙ one.source; node = two.node ∙ one.node; tree = two.tree ∙ one.tree; settled = two.settled ∙ one.settled;
+  }

@@ -44,12 +44,15 @@ pub record IsReach (net : NetworkValue) (state : State) (tree : List Reach) (dis
   pub left : reach.width ≤ left_on (arc_at net reach.step.arc) (slice_index state.flow.items reach.step.arc) reach.step.forward
   pub narrow : reach.width ≤ (reach_at tree reach.from).width
 
--- over each step from the node by an arc from the bound on, the end is no further than that
-abbrev pub IsRelaxedFrom : NetworkValue → State → List ℕ → ℕ → ℕ → Type 0
-IsRelaxedFrom net state distances v bound =
-    (a : ℕ) (forward : Bool) → a < length net.arcs → bound ≤ a → start_of (arc_at net a) forward ≡ v
-    → 0 < left_on (arc_at net a) (slice_index state.flow.items a) forward
+-- if the step over the arc starts at the node and has room, its end is no further than by way of the step
+abbrev pub IsRelaxed : NetworkValue → State → List ℕ → ℕ → ℕ → Bool → Type 0
+IsRelaxed net state distances v a forward =
+    start_of (arc_at net a) forward ≡ v → 0 < left_on (arc_at net a) (slice_index state.flow.items a) forward
     → pos (distance_at distances (end_of (arc_at net a) forward)) ≤ℤ (pos (distance_at distances v) +ℤ step_reduced (arc_at net a) forward state.potentials.items)
+
+-- so it is over each arc from the bound on
+abbrev pub IsRelaxedFrom : NetworkValue → State → List ℕ → ℕ → ℕ → Type 0
+IsRelaxedFrom net state distances v bound = (a : ℕ) (forward : Bool) → a < length net.arcs → bound ≤ a → IsRelaxed net state distances v a forward
 
 -- the tree of the settled nodes
 pub record IsTree (net : NetworkValue) (state : State) (source : ℕ) (tree : List Reach) (distances : List ℕ) (settled : List Bool) : Type 0 where

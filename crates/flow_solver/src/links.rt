@@ -1,6 +1,7 @@
 // The arcs at each node.
-ghost use Rattle.std.specs.Prelude.{◌≡◌, ◌<◌, ◌≤◌, length, ℕ, IfOk};
-ghost use Rattle.flow_solver.specs.Links.{AreLinks};
+ghost use Rattle.std.specs.Prelude.{◌≡◌, ◌<◌, ◌≤◌, ◌⊎◌, length, ℕ, IfOk};
+ghost use Rattle.flow_solver.specs.Links.{AreLinks, IsBound};
+ghost use Rattle.bounded_network.specs.Network.{arc_at};
 
 use bounded_network::Network;
 use std::alloc::{AllocError, Global};
@@ -36,4 +37,27 @@ pub fn links_of(alloc: Global, net: &Network) -> Result<Links, AllocError>
         before_tail,
         before_head,
     })
+}
+
+/// One more than the place of the last arc at the node, or 0.
+pub fn last_bound(net: &Network, links: &Links, node: u32) -> u32
+    requires links { AreLinks net.now links.now }
+    requires node_in { node < net.now.nodes }
+    ensures { IsBound net.now node (length net.now.arcs) result }
+{
+    links.last[node as usize]
+}
+
+/// One more than the place of the last arc at the node before the arc at the place, which has the node for an end, or 0.
+pub fn bound_before(net: &Network, links: &Links, node: u32, place: u32) -> u32
+    requires links { AreLinks net.now links.now }
+    requires place_in { place < length net.now.arcs }
+    requires at { ((arc_at net.now place).tail ≡ node) ⊎ ((arc_at net.now place).head ≡ node) }
+    ensures { IsBound net.now node place result }
+{
+    if arc_of(net, place).tail == node {
+        links.before_tail[place as usize]
+    } else {
+        links.before_head[place as usize]
+    }
 }

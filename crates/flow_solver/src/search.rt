@@ -1,18 +1,20 @@
 // The search for the nearest node that lacks something.
-ghost use Rattle.std.specs.Prelude.{◌≡◌, ◌≢◌, ◌+◌, ◌-◌, ◌^◌, ◌<◌, ◌≤◌, ◌⊎◌, length, ℕ, ℤ, pos, ◌+ℤ◌, ◌-ℤ◌, ◌≤ℤ◌, ◌<ℤ◌, IfOk, IfSome, IfNone, OnOk, IsTrue, true, false, slice_set, slice_index};
+ghost use Rattle.std.specs.Prelude.{◌≡◌, ◌≢◌, ◌+◌, ◌-◌, ◌^◌, ◌<◌, ◌≤◌, ◌⊎◌, length, ℕ, ℤ, pos, ◌+ℤ◌, ◌-ℤ◌, ◌≤ℤ◌, ◌<ℤ◌, IfOk, IfSome, IfNone, OnOk, IsTrue, Bool, true, false, slice_set, slice_index};
 ghost use Rattle.std.specs.BinaryHeap.{heap_items, heap_len};
 ghost use Rattle.bounded_network.specs.Network.{NetworkValue, IsNetwork, arc_at, potential_at};
+ghost use Rattle.flow_solver.specs.Links.{AreLinks};
 ghost use Rattle.flow_solver.specs.Queue.{Waits};
 ghost use Rattle.flow_solver.specs.State.{IsWithin, IsState, excess_at};
 ghost use Rattle.flow_solver.specs.Step.{start_of, end_of, step_cost, left_on, step_reduced};
-ghost use Rattle.flow_solver.specs.Search.{IsSearch, IsRelaxedFrom, IsReach, SameTree, distance_at, reach_at, is_settled};
+ghost use Rattle.flow_solver.specs.Search.{IsSearch, IsRelaxed, IsRelaxedFrom, IsReach, SameTree, distance_at, reach_at, is_settled};
 
 use bounded_network::{Arc, Network};
 use std::alloc::{AllocError, Global};
 
+use crate::links::{Links, bound_before, last_bound};
 use crate::queue::{Queue, push};
 use crate::state::State;
-use crate::step::{Step, arc_of, cost, end, left};
+use crate::step::{Step, arc_of, cost, end, left, start};
 
 /// How a node is reached: from the node at a place of the tree, by a step, and how much can be carried on the way.
 #[derive(Clone, Copy)]
@@ -107,7 +109,7 @@ fn relax(net: &Network, state: &State, search: &mut Search, step: Step) -> Resul
     ensures search { OnOk result (IsSearch net.now state.now search.new) }
     ensures lower { OnOk result ((v : ℕ) → distance_at search.new.distances.items v ≤ distance_at search.old.distances.items v) }
     ensures stays { OnOk result (distance_at search.new.distances.items search.old.node ≡ distance_at search.old.distances.items search.old.node) }
-    ensures relaxed { OnOk result (0 < left_on (arc_at net.now step.arc) (slice_index state.now.flow.items step.arc) step.forward → pos (distance_at search.new.distances.items (end_of (arc_at net.now step.arc) step.forward)) ≤ℤ (pos (distance_at search.old.distances.items search.old.node) +ℤ step_reduced (arc_at net.now step.arc) step.forward state.now.potentials.items)) }
+    ensures relaxed { OnOk result (IsRelaxed net.now state.now search.new.distances.items search.old.node step.arc step.forward) }
 {
     let arc = arc_of(net, step.arc);
     let left = left(arc, state.flow[step.arc as usize], step.forward);
@@ -121,5 +123,61 @@ fn relax(net: &Network, state: &State, search: &mut Search, step: Step) -> Resul
     }
     let reach = by(search, step, to, left);
     note(search, to, distance, reach)?;
+    Ok(())
+}
+
+// Relaxes a step if it starts at the node that was settled last.
+fn relax_if(net: &Network, state: &State, search: &mut Search, step: Step) -> Result<(), AllocError>
+    requires kept { IsState net.now state.now.flow.items state.now.excess.items state.now.potentials.items }
+    requires search { IsSearch net.now state.now search.old }
+    requires arc_in { step.arc < length net.now.arcs }
+    ensures same { OnOk result (SameTree search.old search.new) }
+    ensures search { OnOk result (IsSearch net.now state.now search.new) }
+    ensures lower { OnOk result ((v : ℕ) → distance_at search.new.distances.items v ≤ distance_at search.old.distances.items v) }
+    ensures stays { OnOk result (distance_at search.new.distances.items search.old.node ≡ distance_at search.old.distances.items search.old.node) }
+    ensures relaxed { OnOk result (IsRelaxed net.now state.now search.new.distances.items search.old.node step.arc step.forward) }
+{
+    let arc = arc_of(net, step.arc);
+    if start(arc, step.forward) != search.node {
+        return Ok(());
+    }
+    relax(net, state, search, step)?;
+    Ok(())
+}
+
+// Relaxes the steps over an arc from the node that was settled last.
+fn relax_arc(net: &Network, state: &State, search: &mut Search, arc: u32) -> Result<(), AllocError>
+    requires kept { IsState net.now state.now.flow.items state.now.excess.items state.now.potentials.items }
+    requires search { IsSearch net.now state.now search.old }
+    requires arc_in { arc < length net.now.arcs }
+    ensures same { OnOk result (SameTree search.old search.new) }
+    ensures search { OnOk result (IsSearch net.now state.now search.new) }
+    ensures lower { OnOk result ((v : ℕ) → distance_at search.new.distances.items v ≤ distance_at search.old.distances.items v) }
+    ensures stays { OnOk result (distance_at search.new.distances.items search.old.node ≡ distance_at search.old.distances.items search.old.node) }
+    ensures relaxed { OnOk result ((forward : Bool) → IsRelaxed net.now state.now search.new.distances.items search.old.node arc forward) }
+{
+    relax_if(net, state, search, Step { arc, forward: true })?;
+    relax_if(net, state, search, Step {
+        arc,
+        forward: false,
+    })?;
+    Ok(())
+}
+
+// Relaxes all steps from the node that was settled last.
+fn relax_all(net: &Network, links: &Links, state: &State, search: &mut Search) -> Result<(), AllocError>
+    requires kept { IsState net.now state.now.flow.items state.now.excess.items state.now.potentials.items }
+    requires links { AreLinks net.now links.now }
+    requires search { IsSearch net.now state.now search.old }
+    ensures same { OnOk result (SameTree search.old search.new) }
+    ensures search { OnOk result (IsSearch net.now state.now search.new) }
+    ensures relaxed { OnOk result (IsRelaxedFrom net.now state.now search.new.distances.items search.old.node 0) }
+{
+    let mut bound = last_bound(net, links, search.node);
+    while bound > 0 {
+        let place = bound - 1;
+        relax_arc(net, state, search, place)?;
+        bound = bound_before(net, links, search.node, place);
+    }
     Ok(())
 }

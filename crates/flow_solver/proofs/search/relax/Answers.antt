@@ -1,6 +1,7 @@
 use Rattle.std.proofs.Common.{◌≡◌, ◌<◌, ◌≤◌, ◌-◌, arith, length, ap, ◌∙◌, sym}
 use Rattle.std.specs.Prelude.{ℤ, pos, slice_index}
 use Rattle.std.proofs.lemmas.List.{get_or_read}
+use Rattle.std.proofs.lemmas.Int.{ints}
 use Rattle.bounded_network.specs.Network.{arc_at}
 use Rattle.flow_solver.specs.Step.{end_of, left_on}
 use Rattle.flow_solver.specs.Search.{distance_at}
@@ -58,3 +59,11 @@ returns-clause-lower c = IsLowered-le _ _ _ _ (lowered c)
 pub returns-clause-stays : goal.returns-clause-stays
 returns-clause-stays c =
     (lowered c).others c.args.search.now.node (node_apart c.args.net.now c.args.state.now c.args.search.now.source c.args.search.now.node c.args.search.now.tree.items c.args.search.now.reaches.items c.args.search.now.distances.items c.args.search.now.settled.items (heap_items c.args.search.now.queue.waiting) c.arc_of-arc.ensures.kept c.requires.kept c.requires.search c.args.step c.requires.arc_in c.requires.starts (room c) c.end-to.result c.over-distance.result (to_is c) c.over-distance.ensures (lower c))
+
+pub returns-clause-relaxed : goal.returns-clause-relaxed
+returns-clause-relaxed c = λ starts some.
+    let new = c.note.new.search.distances.items in
+    let at = (lowered c).at in
+    let there : distance_at new c.end-to.result ≡ distance_at new (end_of (arc_at c.args.net.now c.args.step.arc) c.args.step.forward) = ap (distance_at new) (to_is c) in
+    let stays = returns-clause-stays c in
+    omega (arith, ints, at, there, stays, c.over-distance.ensures)
