@@ -14,9 +14,9 @@ use Rattle.flow_solver.specs.Queue.{Waits}
 use Rattle.flow_solver.specs.Step.{start_of, end_of, left_on, step_reduced}
 use Rattle.flow_solver.specs.Links.{IsBound}
 use Rattle.flow_solver.specs.State.{IsState}
-use Rattle.flow_solver.specs.Search.{distance_at, reach_at, no_reach, is_settled, IsReach, IsSearchOf, IsRelaxed, IsRelaxedFrom, SameTree}
+use Rattle.flow_solver.specs.Search.{unreached, distance_at, reach_at, no_reach, is_settled, IsReach, IsSearchOf, IsRelaxed, IsRelaxedFrom, SameTree}
 use Rattle.flow_solver.proofs.Searches.{IsStateOf, step_not_negative, IsLowered, IsLowered-set, IsLowered-le, IsSearchOf-lower, settled_apart}
-use Rattle.flow_solver.proofs.Bounds.{end_in}
+use Rattle.flow_solver.proofs.Bounds.{end_in, over_small}
 
 module _ (net : NetworkValue) (state : State) (source node : ℕ) (tree reaches : List Reach) (distances : List ℕ) (settled : List Bool) (waiting : List (Reverse (ℕ × ℕ)))
     (good : IsNetwork net) (kept : IsStateOf net state) (search : IsSearchOf net state source node tree reaches distances settled waiting)
@@ -69,10 +69,12 @@ module _ (net : NetworkValue) (state : State) (source node : ℕ) (tree reaches 
       → (waiting' : List (Reverse (ℕ × ℕ))) → Waits waiting' d to → ((e v : ℕ) → Waits waiting e v → Waits waiting' e v) → ((e v : ℕ) → Waits waiting' e v → Waits waiting e v ⊎ ((e ≡ d) × (v ≡ to)))
       → IsSearchOf net state source node tree (slice_set reaches to reach) (slice_set distances to d) settled waiting'
   IsSearchOf-relax reach node_is from_is step_is some left narrow waiting' added stays only =
+      let small = over_small net state source node tree reaches distances settled waiting good kept search step.arc step.forward a_in starts in
+      let to_reached_at : d < unreached = omega (arith, ints, small, d_is) in
       let there : to < length reaches = omega (arith, search.reaches_long, to_in) in
       let at : reach_at (slice_set reaches to reach) to ≡ reach = get_or-set_same reaches to reach no_reach there in
       IsSearchOf-lower net state source node tree reaches distances settled waiting search to d (slice_set distances to d) (slice_set reaches to reach) waiting'
-        to_in to_unsettled d_far to_lowered (length-set reaches to reach)
+        to_in to_reached_at to_unsettled d_far to_lowered (length-set reaches to reach)
         (subst (λ (r : Reach). IsReach net state tree (slice_set distances to d) (length tree) r to) (sym at) (to_reached reach node_is from_is step_is some left narrow))
         (λ v ne. get_or-set_other reaches to v reach no_reach ne)
         added stays only

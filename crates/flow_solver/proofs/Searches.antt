@@ -97,11 +97,11 @@ module _ (net : NetworkValue) (state : State) (old new : List ℕ) (w d : ℕ) (
 pub IsSearchOf-lower : (net : NetworkValue) (state : State) (source node : ℕ) (tree reaches : List Reach) (distances : List ℕ) (settled : List Bool) (waiting : List (Reverse (ℕ × ℕ)))
     → IsSearchOf net state source node tree reaches distances settled waiting
     → (w d : ℕ) (distances' : List ℕ) (reaches' : List Reach) (waiting' : List (Reverse (ℕ × ℕ)))
-    → w < net.nodes → is_settled settled w ≡ false → distance_at distances node ≤ d → IsLowered distances distances' w d
+    → w < net.nodes → d < unreached → is_settled settled w ≡ false → distance_at distances node ≤ d → IsLowered distances distances' w d
     → length reaches' ≡ length reaches → IsReach net state tree distances' (length tree) (reach_at reaches' w) w → ((v : ℕ) → v ≢ w → reach_at reaches' v ≡ reach_at reaches v)
     → Waits waiting' d w → ((e v : ℕ) → Waits waiting e v → Waits waiting' e v) → ((e v : ℕ) → Waits waiting' e v → Waits waiting e v ⊎ ((e ≡ d) × (v ≡ w)))
     → IsSearchOf net state source node tree reaches' distances' settled waiting'
-IsSearchOf-lower net state source node tree reaches distances settled waiting search w d distances' reaches' waiting' w_in unsettled far lowered reaches_long reached reaches_same added kept only =
+IsSearchOf-lower net state source node tree reaches distances settled waiting search w d distances' reaches' waiting' w_in d_reached unsettled far lowered reaches_long reached reaches_same added kept only =
     let node_far : node ≢ w = settled_apart settled node w search.node_settled unsettled in
     let node_same : distance_at distances' node ≡ distance_at distances node = lowered.others node node_far in
     let tree_far : (i : ℕ) → i < length tree → (reach_at tree i).node ≢ w = λ i b. settled_apart settled (reach_at tree i).node w (search.is_tree.are_settled i b) unsettled in
@@ -122,8 +122,8 @@ IsSearchOf-lower net state source node tree reaches distances settled waiting se
         | inr ne ↦ rw (lowered.others v ne) (search.further v v_in uns)
         ]);
       queued = λ e v waits. elim (only e v waits) [
-          inl before ↦ let q = search.queued e v before in (q.0, omega (arith, q.1, IsLowered-le distances distances' w d lowered v))
-        | inr new ↦ (rw new.1 w_in, rw (new.0, new.1, lowered.at) (omega arith))
+          inl before ↦ let q = search.queued e v before in (q.0, omega (arith, q.1, IsLowered-le distances distances' w d lowered v), q.2)
+        | inr new ↦ (rw new.1 w_in, rw (new.0, new.1, lowered.at) (omega arith), rw new.0 d_reached)
         ];
       waits = λ v v_in uns less. elim (cases_eq v w) [
           inl e ↦ rw (e, lowered.at) added

@@ -80,7 +80,7 @@ pub record IsSearchOf (net : NetworkValue) (state : State) (source node : ℕ) (
   pub candidates : (v : ℕ) → v < net.nodes → is_settled settled v ≡ false → distance_at distances v < unreached → IsReach net state tree distances (length tree) (reach_at reaches v) v
   pub nearer : (v : ℕ) → is_settled settled v ≡ true → distance_at distances v ≤ distance_at distances node
   pub further : (v : ℕ) → v < net.nodes → is_settled settled v ≡ false → distance_at distances node ≤ distance_at distances v
-  pub queued : (d v : ℕ) → Waits waiting d v → (v < net.nodes) × (distance_at distances v ≤ d)
+  pub queued : (d v : ℕ) → Waits waiting d v → (v < net.nodes) × (distance_at distances v ≤ d) × (d < unreached)
   pub waits : (v : ℕ) → v < net.nodes → is_settled settled v ≡ false → distance_at distances v < unreached → Waits waiting (distance_at distances v) v
   pub relaxed : (v : ℕ) → is_settled settled v ≡ true → v ≢ node → IsRelaxedFrom net state distances v 0
   pub calm : (v : ℕ) → is_settled settled v ≡ true → v ≢ node → pos 0 ≤ℤ excess_at state.excess.items v

@@ -1,5 +1,5 @@
 // The search for the nearest node that lacks something.
-ghost use Rattle.std.specs.Prelude.{◌≡◌, ◌≢◌, ◌+◌, ◌-◌, ◌^◌, ◌<◌, ◌≤◌, ◌⊎◌, length, ℕ, ℤ, pos, ◌+ℤ◌, ◌-ℤ◌, ◌≤ℤ◌, ◌<ℤ◌, IfOk, IfSome, IfNone, OnOk, IsTrue, Bool, true, false, slice_set, slice_index};
+ghost use Rattle.std.specs.Prelude.{◌≡◌, ◌≢◌, ◌+◌, ◌-◌, ◌^◌, ◌<◌, ◌≤◌, ◌⊎◌, [], ◌∷◌, ◌++◌, length, ℕ, ℤ, pos, ◌+ℤ◌, ◌-ℤ◌, ◌≤ℤ◌, ◌<ℤ◌, IfOk, IfSome, IfNone, OnOk, IsTrue, Bool, true, false, slice_set, slice_index};
 ghost use Rattle.std.specs.BinaryHeap.{heap_items, heap_len};
 ghost use Rattle.bounded_network.specs.Network.{NetworkValue, IsNetwork, arc_at, potential_at};
 ghost use Rattle.flow_solver.specs.Links.{AreLinks};
@@ -12,7 +12,7 @@ use bounded_network::{Arc, Network};
 use std::alloc::{AllocError, Global};
 
 use crate::links::{Links, bound_before, last_bound};
-use crate::queue::{Queue, push};
+use crate::queue::{Queue, pop, push};
 use crate::state::State;
 use crate::step::{Step, arc_of, cost, end, left, start};
 
@@ -179,5 +179,43 @@ fn relax_all(net: &Network, links: &Links, state: &State, search: &mut Search) -
         relax_arc(net, state, search, place)?;
         bound = bound_before(net, links, search.node, place);
     }
+    Ok(())
+}
+
+// The nearest of the nodes that wait and aren't settled. Settled ones leave the queue.
+fn nearest(queue: &mut Queue, settled: &[bool]) -> Option<(u64, u32)>
+    requires { (d v : ℕ) → Waits (heap_items queue.old.waiting) d v → v < length settled.now }
+    ensures waited { IfSome result (λ x. Waits (heap_items queue.old.waiting) x.0 x.1) }
+    ensures unsettled { IfSome result (λ x. is_settled settled.now x.1 ≡ false) }
+    ensures only { (d v : ℕ) → Waits (heap_items queue.new.waiting) d v → Waits (heap_items queue.old.waiting) d v }
+    ensures kept { IfSome result (λ x. (d v : ℕ) → Waits (heap_items queue.old.waiting) d v → is_settled settled.now v ≡ false → Waits (heap_items queue.new.waiting) d v ⊎ ((d ≡ x.0) × (v ≡ x.1))) }
+    ensures nearest { IfSome result (λ x. (d v : ℕ) → Waits (heap_items queue.old.waiting) d v → is_settled settled.now v ≡ false → x.0 ≤ d) }
+    ensures none { IfNone result ((d v : ℕ) → Waits (heap_items queue.old.waiting) d v → is_settled settled.now v ≡ true) }
+{
+    while let Some((distance, node)) = pop(queue) {
+        let done = settled[node as usize];
+        if !done {
+            return Some((distance, node));
+        }
+    }
+    None
+}
+
+// Puts the node into the tree.
+fn settle(search: &mut Search, node: u32) -> Result<(), AllocError>
+    requires settled_in { node < length search.old.settled.items }
+    requires reaches_in { node < length search.old.reaches.items }
+    ensures source { OnOk result (search.new.source ≡ search.old.source) }
+    ensures node { OnOk result (search.new.node ≡ node) }
+    ensures tree { OnOk result (search.new.tree.items ≡ search.old.tree.items ++ reach_at search.old.reaches.items node ∷ []) }
+    ensures settled { OnOk result (search.new.settled.items ≡ slice_set search.old.settled.items node true) }
+    ensures reaches { OnOk result (search.new.reaches.items ≡ search.old.reaches.items) }
+    ensures distances { OnOk result (search.new.distances.items ≡ search.old.distances.items) }
+    ensures queue { OnOk result (heap_items search.new.queue.waiting ≡ heap_items search.old.queue.waiting) }
+{
+    let reach = search.reaches[node as usize];
+    search.tree.push(reach)?;
+    search.settled[node as usize] = true;
+    search.node = node;
     Ok(())
 }
