@@ -24,15 +24,14 @@ potential_within net state good kept v = elim (cases_lt v net.nodes) [
       rw past record { low = omega (arith, ints); high = omega (arith, ints) }
   ]
 
--- the distance by way of a step from the last settled node is small
-pub over_small : (net : NetworkValue) (state : State) (source node : ℕ) (tree reaches : List Reach) (distances : List ℕ) (settled : List Bool) (waiting : List (Reverse (ℕ × ℕ)))
-    → IsNetwork net → IsStateOf net state → IsSearchOf net state source node tree reaches distances settled waiting
-    → (a : ℕ) (forward : Bool) → a < length net.arcs → start_of (arc_at net a) forward ≡ node
-    → (pos (distance_at distances node) +ℤ step_reduced (arc_at net a) forward state.potentials.items) <ℤ pos (2 ^ 60)
-over_small net state source node tree reaches distances settled waiting good kept search a forward a_in starts =
-    let is_tree = search.is_tree in
+-- the distance by way of a step from a settled node is small
+pub over_settled_small : (net : NetworkValue) (state : State) (source : ℕ) (tree : List Reach) (distances : List ℕ) (settled : List Bool)
+    → IsNetwork net → IsStateOf net state → IsTree net state source tree distances settled → (u : ℕ) → is_settled settled u ≡ true
+    → (a : ℕ) (forward : Bool) → a < length net.arcs → start_of (arc_at net a) forward ≡ u
+    → (pos (distance_at distances u) +ℤ step_reduced (arc_at net a) forward state.potentials.items) <ℤ pos (2 ^ 60)
+over_settled_small net state source tree distances settled good kept is_tree u u_settled a forward a_in starts =
     let root_settled : is_settled settled source ≡ true = rw is_tree.root at (is_tree.are_settled 0 is_tree.some) in
-    let near = is_tree.near node source search.node_settled root_settled in
+    let near = is_tree.near u source u_settled root_settled in
     let short = tree_short net state source tree distances settled is_tree in
     let cost = step_cost_within net.nodes (arc_at net a) forward (good.each a a_in) in
     let at_start = ap (potential_at state.potentials.items) starts in
@@ -41,6 +40,14 @@ over_small net state source node tree reaches distances settled waiting good kep
     let root = is_tree.root_distance in
     let few = good.few_nodes in
     omega (arith, ints, near, short, cost.high, at_start, p.high, q.low, root, few)
+
+-- so it is from the last settled node
+pub over_small : (net : NetworkValue) (state : State) (source node : ℕ) (tree reaches : List Reach) (distances : List ℕ) (settled : List Bool) (waiting : List (Reverse (ℕ × ℕ)))
+    → IsNetwork net → IsStateOf net state → IsSearchOf net state source node tree reaches distances settled waiting
+    → (a : ℕ) (forward : Bool) → a < length net.arcs → start_of (arc_at net a) forward ≡ node
+    → (pos (distance_at distances node) +ℤ step_reduced (arc_at net a) forward state.potentials.items) <ℤ pos (2 ^ 60)
+over_small net state source node tree reaches distances settled waiting good kept search =
+    over_settled_small net state source tree distances settled good kept search.is_tree node search.node_settled
 
 -- the reduced cost of a step from its parts
 pub step_reduced-parts : (arc : Arc) (forward : Bool) (potentials : List ℤ) (node : ℕ) (cost from to : ℤ) → start_of arc forward ≡ node → cost ≡ step_cost arc forward → from ≡ potential_at potentials node → to ≡ potential_at potentials (end_of arc forward) → (cost +ℤ from) -ℤ to ≡ step_reduced arc forward potentials

@@ -2,6 +2,7 @@ pub mod Bounds
 pub mod Chains
 pub mod Members
 pub mod Relaxing
+pub mod Runs
 pub mod Searches
 pub mod Settling
 pub mod Shifts

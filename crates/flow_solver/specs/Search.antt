@@ -95,3 +95,16 @@ pub record SameTree (old new : Search) : Type 0 where
   pub node : new.node ≡ old.node
   pub tree : new.tree.items ≡ old.tree.items
   pub settled : new.settled.items ≡ old.settled.items
+
+-- a node that lacks something was settled last
+pub record IsFound (net : NetworkValue) (state : State) (search : Search) : Type 0 where
+  pub search_kept : IsSearch net state search
+  pub lacks : excess_at state.excess.items search.node <ℤ pos 0
+
+-- no step with room leaves the settled nodes, and none of them lacks anything
+pub record IsClosed (net : NetworkValue) (state : State) (source : ℕ) (settled : List Bool) : Type 0 where
+  pub long : length settled ≡ net.nodes
+  pub source_settled : is_settled settled source ≡ true
+  pub calm : (v : ℕ) → is_settled settled v ≡ true → pos 0 ≤ℤ excess_at state.excess.items v
+  pub closed : (a : ℕ) (forward : Bool) → a < length net.arcs → is_settled settled (start_of (arc_at net a) forward) ≡ true
+    → 0 < left_on (arc_at net a) (slice_index state.flow.items a) forward → is_settled settled (end_of (arc_at net a) forward) ≡ true

@@ -1,20 +1,24 @@
 // The search for the nearest node that lacks something.
 ghost use Rattle.std.specs.Prelude.{◌≡◌, ◌≢◌, ◌+◌, ◌-◌, ◌^◌, ◌<◌, ◌≤◌, ◌⊎◌, [], ◌∷◌, ◌++◌, length, ℕ, ℤ, pos, ◌+ℤ◌, ◌-ℤ◌, ◌≤ℤ◌, ◌<ℤ◌, IfOk, IfSome, IfNone, OnOk, IsTrue, Bool, true, false, slice_set, slice_index};
+ghost use Rattle.std.specs.Bool.{OnTrue, OnFalse};
 ghost use Rattle.std.specs.BinaryHeap.{heap_items, heap_len};
 ghost use Rattle.bounded_network.specs.Network.{NetworkValue, IsNetwork, arc_at, potential_at};
 ghost use Rattle.flow_solver.specs.Links.{AreLinks};
 ghost use Rattle.flow_solver.specs.Queue.{Waits};
 ghost use Rattle.flow_solver.specs.State.{IsWithin, IsState, excess_at};
 ghost use Rattle.flow_solver.specs.Step.{start_of, end_of, step_cost, left_on, step_reduced};
-ghost use Rattle.flow_solver.specs.Search.{IsSearch, IsRelaxed, IsRelaxedFrom, IsReach, SameTree, distance_at, reach_at, is_settled};
+ghost use Rattle.flow_solver.specs.Search.{IsSearch, IsRelaxed, IsRelaxedFrom, IsReach, SameTree, IsFound, IsClosed, distance_at, reach_at, is_settled};
 
 use bounded_network::{Arc, Network};
 use std::alloc::{AllocError, Global};
 
 use crate::links::{Links, bound_before, last_bound};
-use crate::queue::{Queue, pop, push};
+use crate::queue::{Queue, empty, pop, push};
 use crate::state::State;
 use crate::step::{Step, arc_of, cost, end, left, start};
+
+// The distance of a node that is not reached.
+const UNREACHED: u64 = u64::MAX;
 
 /// How a node is reached: from the node at a place of the tree, by a step, and how much can be carried on the way.
 #[derive(Clone, Copy)]
@@ -218,4 +222,72 @@ fn settle(search: &mut Search, node: u32) -> Result<(), AllocError>
     search.settled[node as usize] = true;
     search.node = node;
     Ok(())
+}
+
+// As much of an excess as fits.
+fn width_of(excess: i128) -> u64
+    requires { pos 0 <ℤ excess }
+    ensures some { 0 < result }
+    ensures within { pos result ≤ℤ excess }
+{
+    if excess < u64::MAX as i128 { excess as u64 } else { u64::MAX }
+}
+
+/// A search that has settled its source alone.
+pub fn begin(alloc: Global, net: &Network, state: &State, source: u32) -> Result<Search, AllocError>
+    requires kept { IsState net.now state.now.flow.items state.now.excess.items state.now.potentials.items }
+    requires source_in { source < net.now.nodes }
+    requires rich { pos 0 <ℤ excess_at state.now.excess.items source }
+    ensures search { IfOk result (λ search. IsSearch net.now state.now search) }
+    ensures source { IfOk result (λ search. search.source ≡ source) }
+    ensures node { IfOk result (λ search. search.node ≡ source) }
+{
+    let nodes = net.nodes() as usize;
+    let root = Reach {
+        node: source,
+        from: 0,
+        step: Step {
+            arc: 0,
+            forward: true,
+        },
+        width: width_of(state.excess[source as usize]),
+    };
+    let mut tree = Vec::new(alloc);
+    tree.push(root)?;
+    let mut distances = vec![in alloc; UNREACHED; nodes]?;
+    distances[source as usize] = 0;
+    let mut settled = vec![in alloc; false; nodes]?;
+    settled[source as usize] = true;
+    let reaches = vec![in alloc; root; nodes]?;
+    Ok(Search {
+        source,
+        node: source,
+        tree,
+        reaches,
+        distances,
+        settled,
+        queue: empty(alloc),
+    })
+}
+
+/// Settles nodes until one lacks something, which is then settled last and gives `true`, or until nothing waits.
+pub fn run(net: &Network, links: &Links, state: &State, search: &mut Search) -> Result<bool, AllocError>
+    requires kept { IsState net.now state.now.flow.items state.now.excess.items state.now.potentials.items }
+    requires links { AreLinks net.now links.now }
+    requires search { IsSearch net.now state.now search.old }
+    requires calm { pos 0 ≤ℤ excess_at state.now.excess.items search.old.node }
+    ensures source { OnOk result (search.new.source ≡ search.old.source) }
+    ensures found { IfOk result (λ found. OnTrue found (IsFound net.now state.now search.new)) }
+    ensures closed { IfOk result (λ found. OnFalse found (IsClosed net.now state.now search.new.source search.new.settled.items)) }
+{
+    let _nodes = net.nodes();
+    relax_all(net, links, state, search)?;
+    while let Some((_, node)) = nearest(&mut search.queue, &search.settled) {
+        settle(search, node)?;
+        if state.excess[node as usize] < 0 {
+            return Ok(true);
+        }
+        relax_all(net, links, state, search)?;
+    }
+    Ok(false)
 }
