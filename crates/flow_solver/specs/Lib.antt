@@ -3,3 +3,4 @@ pub mod Queue
 pub mod Search
 pub mod State
 pub mod Step
+pub mod Way
