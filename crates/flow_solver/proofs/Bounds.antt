@@ -70,3 +70,16 @@ width_some net state source tree distances settled is_tree i b = elim (cases_eq 
     inl e ↦ rw e is_tree.root_some
   | inr ne ↦ (is_tree.reaches i (omega arith) b).some
   ]
+
+-- the distance of a settled node is small
+pub settled_small : (net : NetworkValue) (state : State) (source : ℕ) (tree : List Reach) (distances : List ℕ) (settled : List Bool)
+    → IsNetwork net → IsStateOf net state → IsTree net state source tree distances settled → (u : ℕ) → is_settled settled u ≡ true → distance_at distances u < 2 ^ 60
+settled_small net state source tree distances settled good kept is_tree u u_settled =
+    let root_settled : is_settled settled source ≡ true = rw is_tree.root at (is_tree.are_settled 0 is_tree.some) in
+    let near = is_tree.near u source u_settled root_settled in
+    let short = tree_short net state source tree distances settled is_tree in
+    let p = potential_within net state good kept source in
+    let q = potential_within net state good kept u in
+    let root = is_tree.root_distance in
+    let few = good.few_nodes in
+    omega (arith, ints, near, short, p.high, q.low, root, few)

@@ -9,3 +9,4 @@ pub mod Settling
 pub mod Shifts
 pub mod Starts
 pub mod States
+pub mod Ways

@@ -7,3 +7,4 @@ mod search;
 mod start;
 mod state;
 mod step;
+mod way;

@@ -224,8 +224,8 @@ fn settle(search: &mut Search, node: u32) -> Result<(), AllocError>
     Ok(())
 }
 
-// As much of an excess as fits.
-fn width_of(excess: i128) -> u64
+/// As much of an excess as fits.
+pub fn width_of(excess: i128) -> u64
     requires { pos 0 <ℤ excess }
     ensures some { 0 < result }
     ensures within { pos result ≤ℤ excess }
