@@ -1,5 +1,6 @@
 pub mod Bounds
 pub mod Chains
+pub mod Endings
 pub mod Falling
 pub mod Members
 pub mod Relaxing
