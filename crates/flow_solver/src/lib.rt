@@ -4,7 +4,10 @@
 mod links;
 mod queue;
 mod search;
+mod solver;
 mod start;
 mod state;
 mod step;
 mod way;
+
+pub use solver::{Solution, solve};
