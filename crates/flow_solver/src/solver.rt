@@ -7,6 +7,7 @@ ghost use Rattle.flow_solver.specs.Solution.{IfSolved, IfUnsat};
 use bounded_network::Network;
 use std::alloc::{AllocError, Global};
 
+use crate::guess::first_potentials;
 use crate::links::{Links, links_of};
 use crate::search::{begin, run};
 use crate::start::start_at;
@@ -64,7 +65,8 @@ pub fn solve(alloc: Global, net: &Network) -> Result<Solution, AllocError>
     ensures marks { IfOk result (λ solution. IfUnsat solution (λ marks. length marks ≡ net.now.nodes)) }
 {
     let links = links_of(alloc, net)?;
-    let potentials = vec![in alloc; 0i64; net.nodes() as usize]?;
+    let _nodes = net.nodes();
+    let potentials = first_potentials(alloc, net)?;
     let mut state = start_at(alloc, net, potentials)?;
     for source in 0..net.nodes() {
         let ended = drain(alloc, net, &links, &mut state, source)?;
@@ -77,3 +79,6 @@ pub fn solve(alloc: Global, net: &Network) -> Result<Solution, AllocError>
         potentials: state.potentials,
     })
 }
+
+#[cfg(test)]
+mod tests;
