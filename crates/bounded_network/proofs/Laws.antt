@@ -23,7 +23,7 @@ rises-are-excesses net flow p good =
     let heads = sum_at_ends m x (λ a. (arc_at net a).head) net.nodes p (λ a b. (good.each a b).head) in
     let tails = sum_at_ends m x (λ a. (arc_at net a).tail) net.nodes p (λ a b. (good.each a b).tail) in
     let split : sum_below m (λ a. pos (x a) *ℤ (p (arc_at net a).head -ℤ p (arc_at net a).tail)) ≡ sum_below m (λ a. (pos (x a) *ℤ p (arc_at net a).head) -ℤ (pos (x a) *ℤ p (arc_at net a).tail)) =
-      sum_below-equal m (λ a. pos (x a) *ℤ (p (arc_at net a).head -ℤ p (arc_at net a).tail)) (λ a. (pos (x a) *ℤ p (arc_at net a).head) -ℤ (pos (x a) *ℤ p (arc_at net a).tail)) (λ a b. scale--ℤ (x a) (p (arc_at net a).head) (p (arc_at net a).tail)) in
+    sum_below-equal m (λ a. pos (x a) *ℤ (p (arc_at net a).head -ℤ p (arc_at net a).tail)) (λ a. (pos (x a) *ℤ p (arc_at net a).head) -ℤ (pos (x a) *ℤ p (arc_at net a).tail)) (λ a b. scale--ℤ (x a) (p (arc_at net a).head) (p (arc_at net a).tail)) in
     let parts = sum_below--ℤ m (λ a. pos (x a) *ℤ p (arc_at net a).head) (λ a. pos (x a) *ℤ p (arc_at net a).tail) in
     let nodes = sum_below--ℤ net.nodes (λ v. pos (entering net flow v) *ℤ p v) (λ v. pos (leaving net flow v) *ℤ p v) in
     omega (arith, ints, heads, tails, split, parts, nodes)
@@ -34,7 +34,7 @@ pub rises-of_circulation : (net : NetworkValue) (flow : List ℕ) (p : ℕ → �
 rises-of_circulation net flow p good round =
     rises-are-excesses net flow p good
     ∙ sum_below-zero net.nodes (λ v. (pos (entering net flow v) *ℤ p v) -ℤ (pos (leaving net flow v) *ℤ p v))
-      (λ v b. rw (round.balanced v b) (omega (arith, ints)))
+    (λ v b. rw (round.balanced v b) (omega (arith, ints)))
 
 -- the cost of a circulation is its sum at the reduced costs
 pub flow_cost-reduced : (net : NetworkValue) (flow : List ℕ) (potentials : List ℤ) → IsNetwork net → IsCirculation net flow →
@@ -46,22 +46,22 @@ flow_cost-reduced net flow potentials good round =
     let rise : ℕ → ℤ = λ a. p (arc_at net a).head -ℤ p (arc_at net a).tail in
     let nothing = rises-of_circulation net flow p good round in
     let split : flow_cost net flow ≡ sum_below m (λ a. (pos (x a) *ℤ reduced_cost net potentials a) +ℤ (pos (x a) *ℤ rise a)) =
-      sum_below-equal m (λ a. pos (x a) *ℤ (arc_at net a).cost) (λ a. (pos (x a) *ℤ reduced_cost net potentials a) +ℤ (pos (x a) *ℤ rise a))
-        (λ a b.
-          let whole : (arc_at net a).cost ≡ reduced_cost net potentials a +ℤ rise a = omega (arith, ints) in
-          ap (λ c. pos (x a) *ℤ c) whole ∙ scale-+ℤ (x a) (reduced_cost net potentials a) (rise a)) in
+    sum_below-equal m (λ a. pos (x a) *ℤ (arc_at net a).cost) (λ a. (pos (x a) *ℤ reduced_cost net potentials a) +ℤ (pos (x a) *ℤ rise a))
+    (λ a b.
+    let whole : (arc_at net a).cost ≡ reduced_cost net potentials a +ℤ rise a = omega (arith, ints) in
+    ap (λ c. pos (x a) *ℤ c) whole ∙ scale-+ℤ (x a) (reduced_cost net potentials a) (rise a)) in
     let parts = sum_below-+ℤ m (λ a. pos (x a) *ℤ reduced_cost net potentials a) (λ a. pos (x a) *ℤ rise a) in
     omega (arith, ints, nothing, split, parts)
 
 -- at one arc: an amount that is least where the reduced cost is positive, and greatest where it is negative
 optimal_at_arc : (x y floor room : ℕ) (r : ℤ) → floor ≤ y → y ≤ room → x ≤ room → floor ≤ x → (x < room → pos 0 ≤ℤ r) → (floor < x → r ≤ℤ pos 0) → (pos x *ℤ r) ≤ℤ (pos y *ℤ r)
 optimal_at_arc x y floor room r fy yr xr fx up down = elim (cases_lt x y) [
-    inl less ↦ scale_more x y r (omega arith) (up (omega arith))
+  | inl less ↦ scale_more x y r (omega arith) (up (omega arith))
   | inr more ↦ elim (cases_lt y x) [
-      inl above ↦ scale_less y x r (omega arith) (down (omega arith))
+    | inl above ↦ scale_less y x r (omega arith) (down (omega arith))
     | inr same ↦ let e : x ≡ y = omega arith in rw e (omega (arith, ints))
-    ]
   ]
+]
 
 -- no circulation costs less than one with optimal potentials
 pub cheapest-at_optimal : (net : NetworkValue) (flow : List ℕ) (potentials : List ℤ) → IsNetwork net → IsCirculation net flow → AreOptimal net flow potentials → IsCheapest net flow
@@ -71,7 +71,7 @@ cheapest-at_optimal net flow potentials good round best other circles =
     let here = flow_cost-reduced net flow potentials good round in
     let there = flow_cost-reduced net other potentials good circles in
     let less = sum_below-le m (λ a. pos (slice_index flow a) *ℤ r a) (λ a. pos (slice_index other a) *ℤ r a)
-        (λ a b. optimal_at_arc (slice_index flow a) (slice_index other a) (arc_at net a).floor (arc_at net a).room (r a) (circles.floors a b) (circles.rooms a b) (round.rooms a b) (round.floors a b) (best.may_rise a b) (best.may_fall a b)) in
+    (λ a b. optimal_at_arc (slice_index flow a) (slice_index other a) (arc_at net a).floor (arc_at net a).room (r a) (circles.floors a b) (circles.rooms a b) (round.rooms a b) (round.floors a b) (best.may_rise a b) (best.may_fall a b)) in
     omega (arith, ints, here, there, less)
 
 -- 1 at the marked nodes

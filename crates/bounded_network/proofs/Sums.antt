@@ -59,9 +59,9 @@ sum_below-not_negative (suc n) f h =
 pub term_le_sum : (n : ℕ) (f : ℕ → ℤ) (s : ℕ) → ((v : ℕ) → v < n → pos 0 ≤ℤ f v) → s < n → f s ≤ℤ sum_below n f
 term_le_sum zero f s h lt = absurd (omega arith)
 term_le_sum (suc n) f s h lt = elim (cases_eq s n) [
-    inl e ↦ rw e (omega (arith, ints, sum_below-not_negative n f (λ v b. h v (omega arith))))
+  | inl e ↦ rw e (omega (arith, ints, sum_below-not_negative n f (λ v b. h v (omega arith))))
   | inr ne ↦ omega (arith, ints, term_le_sum n f s (λ v b. h v (omega arith)) (omega arith), h n (omega arith))
-  ]
+]
 
 -- an amount at one node
 pub when-same : (v x : ℕ) → when (v == v) x ≡ x
@@ -74,15 +74,15 @@ when-other e v x ne = rw (ne_eqb e v ne) refl
 pub sum_at_one : (n : ℕ) (e x : ℕ) (p : ℕ → ℤ) → e < n → sum_below n (λ v. pos (when (e == v) x) *ℤ p v) ≡ pos x *ℤ p e
 sum_at_one zero e x p lt = absurd (omega arith)
 sum_at_one (suc n) e x p lt = elim (cases_eq e n) [
-    inl same ↦
+  | inl same ↦
       let before : sum_below n (λ v. pos (when (e == v) x) *ℤ p v) ≡ pos 0 =
-        sum_below-zero n (λ v. pos (when (e == v) x) *ℤ p v) (λ v b. rw (when-other e v x (λ q. absurd (omega arith)), zero-*ℤ (p v)) refl) in
+      sum_below-zero n (λ v. pos (when (e == v) x) *ℤ p v) (λ v b. rw (when-other e v x (λ q. absurd (omega arith)), zero-*ℤ (p v)) refl) in
       let here : pos (when (e == n) x) *ℤ p n ≡ pos x *ℤ p e = rw same (rw (when-same n x) refl) in
       omega (arith, ints, before, here)
   | inr ne ↦
       let here : pos (when (e == n) x) *ℤ p n ≡ pos 0 = rw (when-other e n x ne, zero-*ℤ (p n)) refl in
       omega (arith, ints, sum_at_one n e x p (omega arith), here)
-  ]
+]
 
 -- The amounts of arcs, each times the number at the arc's end, are the amounts at the nodes, each times the node's number.
 pub sum_at_ends : (m : ℕ) (x e : ℕ → ℕ) (n : ℕ) (p : ℕ → ℤ) → ((a : ℕ) → a < m → e a < n) → sum_below m (λ a. pos (x a) *ℤ p (e a)) ≡ sum_below n (λ v. pos (count_below m (λ a. when (e a == v) (x a))) *ℤ p v)
@@ -91,7 +91,7 @@ sum_at_ends (suc m) x e n p h =
     let at : ℕ → ℕ = λ v. count_below m (λ a. when (e a == v) (x a)) in
     let last : ℕ → ℕ = λ v. when (e m == v) (x m) in
     let split : sum_below n (λ v. pos (at v + last v) *ℤ p v) ≡ sum_below n (λ v. (pos (at v) *ℤ p v) +ℤ (pos (last v) *ℤ p v)) =
-      sum_below-equal n (λ v. pos (at v + last v) *ℤ p v) (λ v. (pos (at v) *ℤ p v) +ℤ (pos (last v) *ℤ p v)) (λ v b. scale_by_sum (at v) (last v) (p v)) in
+    sum_below-equal n (λ v. pos (at v + last v) *ℤ p v) (λ v. (pos (at v) *ℤ p v) +ℤ (pos (last v) *ℤ p v)) (λ v b. scale_by_sum (at v) (last v) (p v)) in
     let parts = sum_below-+ℤ n (λ v. pos (at v) *ℤ p v) (λ v. pos (last v) *ℤ p v) in
     let one = sum_at_one n (e m) (x m) p (h m (omega arith)) in
     omega (arith, ints, split, parts, one, sum_at_ends m x e n p (λ a b. h a (omega arith)))

@@ -18,11 +18,11 @@ use Rattle.flow_solver.proofs.Settling.{tree_short}
 -- a potential is small
 pub potential_within : (net : NetworkValue) (state : State) → IsNetwork net → IsStateOf net state → (v : ℕ) → IsWithin 2024008000000000 (potential_at state.potentials.items v)
 potential_within net state good kept v = elim (cases_lt v net.nodes) [
-    inl below ↦ let b = kept.bounded v below in record { low = omega (arith, ints, b.low, good.few_nodes); high = omega (arith, ints, b.high, good.few_nodes) }
+  | inl below ↦ let b = kept.bounded v below in record { low = omega (arith, ints, b.low, good.few_nodes); high = omega (arith, ints, b.high, good.few_nodes) }
   | inr above ↦
       let past : potential_at state.potentials.items v ≡ pos 0 = get_or_past state.potentials.items v (pos 0) (omega (arith, kept.potentials_long)) in
       rw past record { low = omega (arith, ints); high = omega (arith, ints) }
-  ]
+]
 
 -- the distance by way of a step from a settled node is small
 pub over_settled_small : (net : NetworkValue) (state : State) (source : ℕ) (tree : List Reach) (distances : List ℕ) (settled : List Bool)
@@ -67,9 +67,9 @@ start_in nodes arc false good = good.head
 -- each place of the tree carries something
 pub width_some : (net : NetworkValue) (state : State) (source : ℕ) (tree : List Reach) (distances : List ℕ) (settled : List Bool) → IsTree net state source tree distances settled → (i : ℕ) → i < length tree → 0 < (reach_at tree i).width
 width_some net state source tree distances settled is_tree i b = elim (cases_eq i 0) [
-    inl e ↦ rw e is_tree.root_some
+  | inl e ↦ rw e is_tree.root_some
   | inr ne ↦ (is_tree.reaches i (omega arith) b).some
-  ]
+]
 
 -- the distance of a settled node is small
 pub settled_small : (net : NetworkValue) (state : State) (source : ℕ) (tree : List Reach) (distances : List ℕ) (settled : List Bool)

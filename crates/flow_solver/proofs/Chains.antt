@@ -18,20 +18,20 @@ pub record AreLinksTo (net : NetworkValue) (i : ℕ) (last tails heads : List �
 -- the bound of a node once the arc at i is there
 IsBound-more : (net : NetworkValue) (i v bound : ℕ) → IsBound net v i bound → (arc_at net i).tail ≢ v → (arc_at net i).head ≢ v → IsBound net v (i + 1) bound
 IsBound-more net i v bound old not_tail not_head = record {
-    below = omega (arith, old.below);
-    none_between = λ a b lt. elim (cases_eq a i) [
-        inl e ↦ rw e (not_tail, not_head)
-      | inr ne ↦ old.none_between a b (omega arith)
-      ];
-    at = old.at;
-  }
+  below = omega (arith, old.below);
+  none_between = λ a b lt. elim (cases_eq a i) [
+    | inl e ↦ rw e (not_tail, not_head)
+    | inr ne ↦ old.none_between a b (omega arith)
+  ];
+  at = old.at;
+}
 
 IsBound-here : (net : NetworkValue) (i v : ℕ) → ((arc_at net i).tail ≡ v) ⊎ ((arc_at net i).head ≡ v) → IsBound net v (i + 1) (i + 1)
 IsBound-here net i v at = record {
-    below = omega arith;
-    none_between = λ a b lt. absurd (omega arith);
-    at = λ _. let e : (i + 1) - 1 ≡ i = omega arith in rw e at;
-  }
+  below = omega arith;
+  none_between = λ a b lt. absurd (omega arith);
+  at = λ _. let e : (i + 1) - 1 ≡ i = omega arith in rw e at;
+}
 
 pub AreLinksTo-more : (net : NetworkValue) (i : ℕ) (last tails heads : List ℕ) → IsNetwork net → i < length net.arcs → AreLinksTo net i last tails heads
     → AreLinksTo net (i + 1) (slice_set (slice_set last (arc_at net i).tail (i + 1)) (arc_at net i).head (i + 1)) (tails ++ slice_index last (arc_at net i).tail ∷ []) (heads ++ slice_index last (arc_at net i).head ∷ [])
@@ -47,18 +47,18 @@ AreLinksTo-more net i last tails heads good i_in old =
       tails_long = omega (arith, length_push tails (slice_index last t), old.tails_long);
       heads_long = omega (arith, length_push heads (slice_index last h), old.heads_long);
       lasts = λ v b. elim (cases_eq v h) [
-          inl e ↦ rw (e, get_or-set_same once h (i + 1) 0 (omega (arith, once_long))) (IsBound-here net i h (inr refl))
+        | inl e ↦ rw (e, get_or-set_same once h (i + 1) 0 (omega (arith, once_long))) (IsBound-here net i h (inr refl))
         | inr off_head ↦ rw get_or-set_other (elim (cases_eq v t) [
-            inl e ↦ rw (e, get_or-set_same last t (i + 1) 0 (omega (arith, old.last_long))) (IsBound-here net i t (inl refl))
+          | inl e ↦ rw (e, get_or-set_same last t (i + 1) 0 (omega (arith, old.last_long))) (IsBound-here net i t (inl refl))
           | inr off_tail ↦ rw get_or-set_other (IsBound-more net i v (slice_index last v) (old.lasts v b) (λ q. off_tail (sym q)) (λ q. off_head (sym q)))
-          ])
-        ];
+        ])
+      ];
       before_tail = λ a b. elim (cases_eq a i) [
-          inl e ↦ rw (e, get_or_push tails (slice_index last t) 0 i old.tails_long) (old.lasts t t_in)
+        | inl e ↦ rw (e, get_or_push tails (slice_index last t) 0 i old.tails_long) (old.lasts t t_in)
         | inr ne ↦ rw (get_or_append_left tails (slice_index last t ∷ []) 0 a (omega (arith, old.tails_long))) (old.before_tail a (omega arith))
-        ];
+      ];
       before_head = λ a b. elim (cases_eq a i) [
-          inl e ↦ rw (e, get_or_push heads (slice_index last h) 0 i old.heads_long) (old.lasts h h_in)
+        | inl e ↦ rw (e, get_or_push heads (slice_index last h) 0 i old.heads_long) (old.lasts h h_in)
         | inr ne ↦ rw (get_or_append_left heads (slice_index last h ∷ []) 0 a (omega (arith, old.heads_long))) (old.before_head a (omega arith))
-        ];
+      ];
     }

@@ -53,18 +53,18 @@ AreViolated-from_closed net state source settled good kept closed source_in rich
     let bound : ℕ → ℤ = λ a. mark_bound (is_marked settled (arc_at net a).tail) (is_marked settled (arc_at net a).head) (arc_at net a).floor (arc_at net a).room in
     let node : ℕ → ℤ = λ v. (pos (entering net flow v) *ℤ p v) -ℤ (pos (leaving net flow v) *ℤ p v) in
     let arcs : sum_below m given ≡ sum_below m bound = sum_below-equal m given bound (λ a b.
-      closed_at_arc (is_marked settled (arc_at net a).tail) (is_marked settled (arc_at net a).head) (slice_index flow a) (arc_at net a).floor (arc_at net a).room (kept.floors a b) (kept.rooms a b)
-        (λ head_in tail_out. elim (cases_lt (arc_at net a).floor (slice_index flow a)) [
-            inl more ↦ absurd (both_ways (is_settled settled (arc_at net a).tail) tail_out (closed.closed a false b head_in (omega arith)))
-          | inr none ↦ none
-          ])
-        (λ tail_in head_out. elim (cases_lt (slice_index flow a) (arc_at net a).room) [
-            inl less ↦ absurd (both_ways (is_settled settled (arc_at net a).head) head_out (closed.closed a true b tail_in (omega arith)))
-          | inr full ↦ full
-          ])) in
+    closed_at_arc (is_marked settled (arc_at net a).tail) (is_marked settled (arc_at net a).head) (slice_index flow a) (arc_at net a).floor (arc_at net a).room (kept.floors a b) (kept.rooms a b)
+    (λ head_in tail_out. elim (cases_lt (arc_at net a).floor (slice_index flow a)) [
+      | inl more ↦ absurd (both_ways (is_settled settled (arc_at net a).tail) tail_out (closed.closed a false b head_in (omega arith)))
+      | inr none ↦ none
+    ])
+    (λ tail_in head_out. elim (cases_lt (slice_index flow a) (arc_at net a).room) [
+      | inl less ↦ absurd (both_ways (is_settled settled (arc_at net a).head) head_out (closed.closed a true b tail_in (omega arith)))
+      | inr full ↦ full
+    ])) in
     let sum = rises-are-excesses net flow p good in
     let at_source : node source ≤ℤ sum_below net.nodes node = term_le_sum net.nodes node source
-      (λ v b. excess_at_node (is_marked settled v) (entering net flow v) (leaving net flow v) (λ s. rw (← kept.exact v b) (closed.calm v s))) source_in in
+    (λ v b. excess_at_node (is_marked settled v) (entering net flow v) (leaving net flow v) (λ s. rw (← kept.exact v b) (closed.calm v s))) source_in in
     let source_is = marked_node (is_marked settled source) (entering net flow source) (leaving net flow source) closed.source_settled in
     omega (arith, ints, arcs, sum, at_source, source_is, kept.exact source source_in, rich, mark_bounds-sum net settled)
 
@@ -76,7 +76,7 @@ excesses-sum net flow good =
     let sum = rises-are-excesses net flow (λ v. minus) good in
     let none = sum_below-zero (length net.arcs) (λ a. pos (slice_index flow a) *ℤ (minus -ℤ minus)) (λ a b. *ℤ-zero (pos (slice_index flow a))) in
     let same = sum_below-equal net.nodes (λ v. pos (leaving net flow v) -ℤ pos (entering net flow v)) (λ v. (pos (entering net flow v) *ℤ minus) -ℤ (pos (leaving net flow v) *ℤ minus))
-      (λ v b. omega (arith, ints)) in
+    (λ v b. omega (arith, ints)) in
     same ∙ sym sum ∙ none
 
 -- with no excess anywhere the flow is a circulation
@@ -88,10 +88,10 @@ IsCirculation-from_poor net state good kept poor =
       floors = kept.floors;
       rooms = kept.rooms;
       balanced = λ v b.
-        let lack : ℕ → ℤ = λ u. pos (leaving net flow u) -ℤ pos (entering net flow u) in
-        let some : (u : ℕ) → u < net.nodes → pos 0 ≤ℤ lack u = λ u u_in. let e = kept.exact u u_in in let h = poor u u_in in omega (arith, ints, e, h) in
-        let here = term_le_sum net.nodes lack v some b in
-        let e = kept.exact v b in
-        let h = poor v b in
-        omega (arith, ints, here, e, h, excesses-sum net flow good);
+          let lack : ℕ → ℤ = λ u. pos (leaving net flow u) -ℤ pos (entering net flow u) in
+          let some : (u : ℕ) → u < net.nodes → pos 0 ≤ℤ lack u = λ u u_in. let e = kept.exact u u_in in let h = poor u u_in in omega (arith, ints, e, h) in
+          let here = term_le_sum net.nodes lack v some b in
+          let e = kept.exact v b in
+          let h = poor v b in
+          omega (arith, ints, here, e, h, excesses-sum net flow good);
     }

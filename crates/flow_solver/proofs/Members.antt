@@ -29,6 +29,6 @@ Waits-cases old new x d v moved waits =
     let y : Reverse (ℕ × ℕ) = record { 0 = (d, v) } in
     let here : Contains (x ∷ old) y = Contains-permutation new (x ∷ old) y moved waits in
     elim (Contains-append_cases (x ∷ []) old y here) [
-      inl first ↦ let e : x ≡ y = one_holds x y first in inr (ap (λ (z : Reverse (ℕ × ℕ)). z.0.0) (sym e), ap (λ (z : Reverse (ℕ × ℕ)). z.0.1) (sym e))
-    | inr rest ↦ inl rest
+      | inl first ↦ let e : x ≡ y = one_holds x y first in inr (ap (λ (z : Reverse (ℕ × ℕ)). z.0.0) (sym e), ap (λ (z : Reverse (ℕ × ℕ)). z.0.1) (sym e))
+      | inr rest ↦ inl rest
     ]

@@ -33,9 +33,9 @@ module _ (net : NetworkValue) (state : State) (source node : ℕ) (tree reaches 
 
   pub to_unsettled : is_settled settled to ≡ false
   to_unsettled = elim (cases_Bool (is_settled settled to)) [
-      inl s ↦ absurd (omega (arith, search.nearer to s, d_far, lower))
+    | inl s ↦ absurd (omega (arith, search.nearer to s, d_far, lower))
     | inr u ↦ u
-    ]
+  ]
 
   pub to_lowered : IsLowered distances (slice_set distances to d) to d
   to_lowered = IsLowered-set distances to d (omega (arith, search.distances_long, to_in)) lower
@@ -50,7 +50,7 @@ module _ (net : NetworkValue) (state : State) (source node : ℕ) (tree reaches 
       let last : (reach_at tree reach.from).node ≡ node = ap (λ i. (reach_at tree i).node) from_is ∙ search.node_last in
       let dist_to : distance_at (slice_set distances to d) to ≡ d = to_lowered.at in
       let dist_from : distance_at (slice_set distances to d) (reach_at tree reach.from).node ≡ distance_at distances node =
-        ap (distance_at (slice_set distances to d)) last ∙ to_lowered.others node node_apart in
+      ap (distance_at (slice_set distances to d)) last ∙ to_lowered.others node node_apart in
       record {
         node = node_is;
         from = omega (arith, from_is, search.is_tree.some);
@@ -58,7 +58,7 @@ module _ (net : NetworkValue) (state : State) (source node : ℕ) (tree reaches 
         starts = subst (λ (s : Step). start_of (arc_at net s.arc) s.forward ≡ (reach_at tree reach.from).node) (sym step_is) (starts ∙ sym last);
         ends = subst (λ (s : Step). end_of (arc_at net s.arc) s.forward ≡ to) (sym step_is) (sym to_is);
         distance = subst (λ (s : Step). pos (distance_at (slice_set distances to d) to) ≡ pos (distance_at (slice_set distances to d) (reach_at tree reach.from).node) +ℤ step_reduced (arc_at net s.arc) s.forward state.potentials.items) (sym step_is)
-          (rw (dist_to, dist_from) d_is);
+            (rw (dist_to, dist_from) d_is);
         some = some;
         left = subst (λ (s : Step). reach.width ≤ left_on (arc_at net s.arc) (slice_index state.flow.items s.arc) s.forward) (sym step_is) left;
         narrow = subst (λ (i : ℕ). reach.width ≤ (reach_at tree i).width) (sym from_is) narrow;
@@ -74,10 +74,10 @@ module _ (net : NetworkValue) (state : State) (source node : ℕ) (tree reaches 
       let there : to < length reaches = omega (arith, search.reaches_long, to_in) in
       let at : reach_at (slice_set reaches to reach) to ≡ reach = get_or-set_same reaches to reach no_reach there in
       IsSearchOf-lower net state source node tree reaches distances settled waiting search to d (slice_set distances to d) (slice_set reaches to reach) waiting'
-        to_in to_reached_at to_unsettled d_far to_lowered (length-set reaches to reach)
-        (subst (λ (r : Reach). IsReach net state tree (slice_set distances to d) (length tree) r to) (sym at) (to_reached reach node_is from_is step_is some left narrow))
-        (λ v ne. get_or-set_other reaches to v reach no_reach ne)
-        added stays only
+      to_in to_reached_at to_unsettled d_far to_lowered (length-set reaches to reach)
+      (subst (λ (r : Reach). IsReach net state tree (slice_set distances to d) (length tree) r to) (sym at) (to_reached reach node_is from_is step_is some left narrow))
+      (λ v ne. get_or-set_other reaches to v reach no_reach ne)
+      added stays only
 
 -- a relaxed step stays relaxed as distances fall, but not that of its start
 pub IsRelaxed-lower : (net : NetworkValue) (state : State) (old new : List ℕ) (v a : ℕ) (forward : Bool) → ((u : ℕ) → distance_at new u ≤ distance_at old u) → distance_at new v ≡ distance_at old v
@@ -96,15 +96,18 @@ step_at net a v false starts not_tail not_head = not_head starts
 pub IsRelaxedFrom-more : (net : NetworkValue) (state : State) (old new : List ℕ) (v place bound : ℕ) → ((u : ℕ) → distance_at new u ≤ distance_at old u) → distance_at new v ≡ distance_at old v
     → ((forward : Bool) → IsRelaxed net state new v place forward) → IsBound net v place bound → IsRelaxedFrom net state old v (place + 1) → IsRelaxedFrom net state new v bound
 IsRelaxedFrom-more net state old new v place bound less same here between relaxed a forward a_in from = elim (cases_order a place) [
-    inl e ↦ rw e (here forward)
+  | inl e ↦ rw e (here forward)
   | inr other ↦ elim other [
-      inl below ↦ λ starts room. let none = between.none_between a from below in absurd (step_at net a v forward starts none.0 none.1)
+    | inl below ↦ λ starts room. let none = between.none_between a from below in absurd (step_at net a v forward starts none.0 none.1)
     | inr above ↦ IsRelaxed-lower net state old new v a forward less same (relaxed a forward a_in (omega arith))
-    ]
   ]
+]
 
 -- twice the same tree
 pub SameTree-then : (a b c : Search) → SameTree a b → SameTree b c → SameTree a c
 SameTree-then a b c one two = record {
-    source = two.source ∙ one.source; node = two.node ∙ one.node; tree = two.tree ∙ one.tree; settled = two.settled ∙ one.settled;
-  }
+  source = two.source ∙ one.source;
+  node = two.node ∙ one.node;
+  tree = two.tree ∙ one.tree;
+  settled = two.settled ∙ one.settled;
+}

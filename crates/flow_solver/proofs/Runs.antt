@@ -30,19 +30,19 @@ IsClosed-from_search net state source node tree reaches distances settled waitin
       source_settled = rw is_tree.root at (is_tree.are_settled 0 is_tree.some);
       calm = λ v s. elim (cases_eq v node) [ inl e ↦ rw e calm | inr ne ↦ search.calm v s ne ];
       closed = λ a forward a_in starts room.
-        let u : ℕ = start_of (arc_at net a) forward in
-        let w : ℕ = end_of (arc_at net a) forward in
-        let relaxed : IsRelaxed net state distances u a forward = elim (cases_eq u node) [
-            inl e ↦ subst (λ x. IsRelaxed net state distances x a forward) (sym e) (done a forward a_in (omega arith))
-          | inr ne ↦ search.relaxed u starts ne a forward a_in (omega arith)
+          let u : ℕ = start_of (arc_at net a) forward in
+          let w : ℕ = end_of (arc_at net a) forward in
+          let relaxed : IsRelaxed net state distances u a forward = elim (cases_eq u node) [
+            | inl e ↦ subst (λ x. IsRelaxed net state distances x a forward) (sym e) (done a forward a_in (omega arith))
+            | inr ne ↦ search.relaxed u starts ne a forward a_in (omega arith)
           ] in
-        let near = relaxed refl room in
-        let small = over_settled_small net state source tree distances settled good kept is_tree u starts a forward a_in refl in
-        let reached : distance_at distances w < unreached = omega (arith, ints, near, small) in
-        elim (cases_Bool (is_settled settled w)) [
-          inl s ↦ s
-        | inr uns ↦ none (distance_at distances w) w (search.waits w (end_in net.nodes (arc_at net a) forward (good.each a a_in)) uns reached)
-        ];
+          let near = relaxed refl room in
+          let small = over_settled_small net state source tree distances settled good kept is_tree u starts a forward a_in refl in
+          let reached : distance_at distances w < unreached = omega (arith, ints, near, small) in
+          elim (cases_Bool (is_settled settled w)) [
+            | inl s ↦ s
+            | inr uns ↦ none (distance_at distances w) w (search.waits w (end_in net.nodes (arc_at net a) forward (good.each a a_in)) uns reached)
+          ];
     }
 
 -- the nearest node that waits is settled next
@@ -56,18 +56,18 @@ pub IsSearchOf-next : (net : NetworkValue) (state : State) (source node : ℕ) (
 IsSearchOf-next net state source node tree reaches distances settled waiting waiting' good search done calm d v waited unsettled only kept nearest =
     let q = search.queued d v waited in
     IsSearchOf-settle net state source node tree reaches distances settled waiting good search done calm v waiting' q.0 unsettled (omega (arith, q.1, q.2))
-      (λ u u_in uns. elim (cases_lt (distance_at distances u) unreached) [
-          inl reached ↦ let h = nearest (distance_at distances u) u (search.waits u u_in uns reached) uns in omega (arith, h, q.1)
-        | inr far ↦ omega (arith, q.1, q.2)
-        ])
-      only
-      (λ e u waits uns ne. elim (kept e u waits uns) [ inl stays ↦ stays | inr popped ↦ absurd (ne popped.1) ])
+    (λ u u_in uns. elim (cases_lt (distance_at distances u) unreached) [
+      | inl reached ↦ let h = nearest (distance_at distances u) u (search.waits u u_in uns reached) uns in omega (arith, h, q.1)
+      | inr far ↦ omega (arith, q.1, q.2)
+    ])
+    only
+    (λ e u waits uns ne. elim (kept e u waits uns) [ inl stays ↦ stays | inr popped ↦ absurd (ne popped.1) ])
 
 all_false : (n v : ℕ) → is_settled (replicate n false) v ≡ false
 all_false n v = elim (cases_lt v n) [
-    inl below ↦ get_or-replicate n v false false below
+  | inl below ↦ get_or-replicate n v false false below
   | inr above ↦ get_or_past (replicate n false) v false (rw (length-replicate n false) above)
-  ]
+]
 
 -- one settled node counts as one
 one_settled : (n : ℕ) (settled : List Bool) (source : ℕ) → source < n → is_settled settled source ≡ true → ((v : ℕ) → v ≢ source → is_settled settled v ≡ false) → count_below n (λ v. when (is_settled settled v) 1) ≡ 1
@@ -115,16 +115,16 @@ IsSearchOf-begin net state source root reaches waiting source_in root_is some wi
       node_settled = here;
       node_last = root_is;
       candidates = λ v v_in uns reached. elim (cases_eq v source) [
-          inl e ↦ absurd (both_ways (is_settled settled v) uns (rw e here))
+        | inl e ↦ absurd (both_ways (is_settled settled v) uns (rw e here))
         | inr ne ↦ absurd (omega (arith, reached, far v v_in ne))
-        ];
+      ];
       nearer = λ v s. rw (only v s) (omega arith);
       further = λ v v_in uns. rw zero_at (omega arith);
       queued = λ d v waits. absurd (none d v waits);
       waits = λ v v_in uns reached. elim (cases_eq v source) [
-          inl e ↦ absurd (both_ways (is_settled settled v) uns (rw e here))
+        | inl e ↦ absurd (both_ways (is_settled settled v) uns (rw e here))
         | inr ne ↦ absurd (omega (arith, reached, far v v_in ne))
-        ];
+      ];
       relaxed = λ v s ne. absurd (ne (only v s));
       calm = λ v s ne. absurd (ne (only v s));
     }

@@ -49,17 +49,17 @@ pub record IsLowered (old new : List ℕ) (w d : ℕ) : Type 0 where
 
 pub IsLowered-le : (old new : List ℕ) (w d : ℕ) → IsLowered old new w d → (v : ℕ) → distance_at new v ≤ distance_at old v
 IsLowered-le old new w d lowered v = elim (cases_eq v w) [
-    inl e ↦ rw (e, lowered.at) (omega (arith, lowered.lower))
+  | inl e ↦ rw (e, lowered.at) (omega (arith, lowered.lower))
   | inr ne ↦ rw (lowered.others v ne) (omega arith)
-  ]
+]
 
 pub IsLowered-set : (old : List ℕ) (w d : ℕ) → w < length old → d < distance_at old w → IsLowered old (slice_set old w d) w d
 IsLowered-set old w d w_in lower = record {
-    long = length-set old w d;
-    at = get_or-set_same old w d 0 w_in;
-    others = λ v ne. rw get_or-set_other refl;
-    lower = lower;
-  }
+  long = length-set old w d;
+  at = get_or-set_same old w d 0 w_in;
+  others = λ v ne. rw get_or-set_other refl;
+  lower = lower;
+}
 
 -- a settled node is no unsettled one
 pub settled_apart : (settled : List Bool) (u w : ℕ) → is_settled settled u ≡ true → is_settled settled w ≡ false → u ≢ w
@@ -73,22 +73,34 @@ module _ (net : NetworkValue) (state : State) (old new : List ℕ) (w d : ℕ) (
 
   pub IsReach-lower : (tree : List Reach) (limit : ℕ) (reach : Reach) (v : ℕ) → v ≢ w → (reach_at tree reach.from).node ≢ w → IsReach net state tree old limit reach v → IsReach net state tree new limit reach v
   IsReach-lower tree limit reach v ne parent_ne reaches = record {
-      node = reaches.node; from = reaches.from; arc = reaches.arc; starts = reaches.starts; ends = reaches.ends;
-      distance = rw (lowered.others v ne, lowered.others (reach_at tree reach.from).node parent_ne) reaches.distance;
-      some = reaches.some; left = reaches.left; narrow = reaches.narrow;
-    }
+    node = reaches.node;
+    from = reaches.from;
+    arc = reaches.arc;
+    starts = reaches.starts;
+    ends = reaches.ends;
+    distance = rw (lowered.others v ne, lowered.others (reach_at tree reach.from).node parent_ne) reaches.distance;
+    some = reaches.some;
+    left = reaches.left;
+    narrow = reaches.narrow;
+  }
 
   pub IsTree-lower : (source : ℕ) (tree : List Reach) (settled : List Bool) → is_settled settled w ≡ false → IsTree net state source tree old settled → IsTree net state source tree new settled
   IsTree-lower source tree settled unsettled is_tree =
       let far : (i : ℕ) → i < length tree → (reach_at tree i).node ≢ w = λ i b. settled_apart settled (reach_at tree i).node w (is_tree.are_settled i b) unsettled in
       let root_far : source ≢ w = rw is_tree.root at (far 0 is_tree.some) in
       record {
-        settled_long = is_tree.settled_long; counted = is_tree.counted; some = is_tree.some; root = is_tree.root;
+        settled_long = is_tree.settled_long;
+        counted = is_tree.counted;
+        some = is_tree.some;
+        root = is_tree.root;
         root_distance = rw (lowered.others source root_far) is_tree.root_distance;
-        root_width = is_tree.root_width; root_some = is_tree.root_some; nodes = is_tree.nodes; are_settled = is_tree.are_settled;
+        root_width = is_tree.root_width;
+        root_some = is_tree.root_some;
+        nodes = is_tree.nodes;
+        are_settled = is_tree.are_settled;
         reaches = λ i some b.
-          let r = is_tree.reaches i some b in
-          IsReach-lower tree i (reach_at tree i) (reach_at tree i).node (far i b) (far (reach_at tree i).from (omega (arith, r.from))) r;
+            let r = is_tree.reaches i some b in
+            IsReach-lower tree i (reach_at tree i) (reach_at tree i).node (far i b) (far (reach_at tree i).from (omega (arith, r.from))) r;
         apart = is_tree.apart;
         near = λ u v su sv. rw (lowered.others u (settled_apart settled u w su unsettled), lowered.others v (settled_apart settled v w sv unsettled)) (is_tree.near u v su sv);
       }
@@ -109,26 +121,28 @@ IsSearchOf-lower net state source node tree reaches distances settled waiting se
       is_tree = IsTree-lower net state distances distances' w d lowered source tree settled unsettled search.is_tree;
       distances_long = lowered.long ∙ search.distances_long;
       reaches_long = reaches_long ∙ search.reaches_long;
-      node_in = search.node_in; node_settled = search.node_settled; node_last = search.node_last;
+      node_in = search.node_in;
+      node_settled = search.node_settled;
+      node_last = search.node_last;
       candidates = λ v v_in uns less. elim (cases_eq v w) [
-          inl e ↦ rw e reached
+        | inl e ↦ rw e reached
         | inr ne ↦
             let r = search.candidates v v_in uns (rw (lowered.others v ne) at less) in
             rw (reaches_same v ne) (IsReach-lower net state distances distances' w d lowered tree (length tree) (reach_at reaches v) v ne (tree_far (reach_at reaches v).from r.from) r)
-        ];
+      ];
       nearer = λ v s. rw (node_same, lowered.others v (settled_apart settled v w s unsettled)) (search.nearer v s);
       further = λ v v_in uns. rw node_same (elim (cases_eq v w) [
-          inl e ↦ rw (e, lowered.at) far
+        | inl e ↦ rw (e, lowered.at) far
         | inr ne ↦ rw (lowered.others v ne) (search.further v v_in uns)
-        ]);
+      ]);
       queued = λ e v waits. elim (only e v waits) [
-          inl before ↦ let q = search.queued e v before in (q.0, omega (arith, q.1, IsLowered-le distances distances' w d lowered v), q.2)
+        | inl before ↦ let q = search.queued e v before in (q.0, omega (arith, q.1, IsLowered-le distances distances' w d lowered v), q.2)
         | inr new ↦ (rw new.1 w_in, rw (new.0, new.1, lowered.at) (omega arith), rw new.0 d_reached)
-        ];
+      ];
       waits = λ v v_in uns less. elim (cases_eq v w) [
-          inl e ↦ rw (e, lowered.at) added
+        | inl e ↦ rw (e, lowered.at) added
         | inr ne ↦ rw (lowered.others v ne) (kept (distance_at distances v) v (search.waits v v_in uns (rw (lowered.others v ne) at less)))
-        ];
+      ];
       relaxed = λ v s ne. IsRelaxedFrom-lower net state distances distances' w d lowered v 0 (settled_apart settled v w s unsettled) (search.relaxed v s ne);
       calm = search.calm;
     }

@@ -32,27 +32,37 @@ module _ (tree : List Reach) (r : Reach) where
 
   pub IsReach-grown : (net : NetworkValue) (state : State) (distances : List ℕ) (limit : ℕ) (reach : Reach) (v : ℕ) → reach.from < length tree → IsReach net state tree distances limit reach v → IsReach net state (tree ++ r ∷ []) distances limit reach v
   IsReach-grown net state distances limit reach v b reached = record {
-      node = reached.node; from = reached.from; arc = reached.arc;
-      starts = rw (grown-old reach.from b) reached.starts;
-      ends = reached.ends;
-      distance = rw (grown-old reach.from b) reached.distance;
-      some = reached.some; left = reached.left;
-      narrow = rw (grown-old reach.from b) reached.narrow;
-    }
+    node = reached.node;
+    from = reached.from;
+    arc = reached.arc;
+    starts = rw (grown-old reach.from b) reached.starts;
+    ends = reached.ends;
+    distance = rw (grown-old reach.from b) reached.distance;
+    some = reached.some;
+    left = reached.left;
+    narrow = rw (grown-old reach.from b) reached.narrow;
+  }
 
   -- each place of the grown tree is an old place or the new one
   pub grown-cases : (i : ℕ) → i < length (tree ++ r ∷ []) → ((i < length tree) × (reach_at (tree ++ r ∷ []) i ≡ reach_at tree i)) ⊎ ((i ≡ length tree) × (reach_at (tree ++ r ∷ []) i ≡ r))
   grown-cases i b = elim (cases_lt i (length tree)) [
-      inl below ↦ inl (below, grown-old i below)
+    | inl below ↦ inl (below, grown-old i below)
     | inr above ↦ let e : i ≡ length tree = omega (arith, length_push tree r) in inr (e, rw e grown-new)
-    ]
+  ]
 
 -- a more distant limit
 IsReach-wider : (net : NetworkValue) (state : State) (tree : List Reach) (distances : List ℕ) (limit more : ℕ) (reach : Reach) (v : ℕ) → limit ≤ more → IsReach net state tree distances limit reach v → IsReach net state tree distances more reach v
 IsReach-wider net state tree distances limit more reach v le reached = record {
-    node = reached.node; from = omega (arith, reached.from); arc = reached.arc; starts = reached.starts; ends = reached.ends;
-    distance = reached.distance; some = reached.some; left = reached.left; narrow = reached.narrow;
-  }
+  node = reached.node;
+  from = omega (arith, reached.from);
+  arc = reached.arc;
+  starts = reached.starts;
+  ends = reached.ends;
+  distance = reached.distance;
+  some = reached.some;
+  left = reached.left;
+  narrow = reached.narrow;
+}
 
 module _ (settled : List Bool) (v : ℕ) (v_in : v < length settled) where
   pub marked-here : is_settled (slice_set settled v true) v ≡ true
@@ -66,9 +76,9 @@ module _ (settled : List Bool) (v : ℕ) (v_in : v < length settled) where
 
   pub unmarked : (u : ℕ) → is_settled (slice_set settled v true) u ≡ false → (u ≢ v) × (is_settled settled u ≡ false)
   unmarked u s = elim (cases_eq u v) [
-      inl e ↦ absurd (both_ways (is_settled (slice_set settled v true) u) s (rw e marked-here))
+    | inl e ↦ absurd (both_ways (is_settled (slice_set settled v true) u) s (rw e marked-here))
     | inr ne ↦ (ne, sym (marked-other u ne) ∙ s)
-    ]
+  ]
 
 -- the heights at the two ends of a step of the tree differ by its cost
 pub height-step : (net : NetworkValue) (state : State) (tree : List Reach) (distances : List ℕ) (limit : ℕ) (reach : Reach) (v : ℕ) → IsReach net state tree distances limit reach v
@@ -78,8 +88,8 @@ height-step net state tree distances limit reach v reached =
     let cost : ℤ = step_cost (arc_at net reach.step.arc) reach.step.forward in
     let potentials : List ℤ = state.potentials.items in
     let e : step_reduced (arc_at net reach.step.arc) reach.step.forward potentials ≡ (cost +ℤ potential_at potentials p) -ℤ potential_at potentials v =
-      ap (λ x. (cost +ℤ potential_at potentials x) -ℤ potential_at potentials (end_of (arc_at net reach.step.arc) reach.step.forward)) reached.starts
-      ∙ ap (λ x. (cost +ℤ potential_at potentials p) -ℤ potential_at potentials x) reached.ends in
+    ap (λ x. (cost +ℤ potential_at potentials x) -ℤ potential_at potentials (end_of (arc_at net reach.step.arc) reach.step.forward)) reached.starts
+    ∙ ap (λ x. (cost +ℤ potential_at potentials p) -ℤ potential_at potentials x) reached.ends in
     omega (arith, ints, e, reached.distance)
 
 module _ (net : NetworkValue) (state : State) (source : ℕ) (tree : List Reach) (distances : List ℕ) (settled : List Bool) (good : IsNetwork net) (is_tree : IsTree net state source tree distances settled)
@@ -101,13 +111,13 @@ module _ (net : NetworkValue) (state : State) (source : ℕ) (tree : List Reach)
   arc_new i some b same =
       let old = is_tree.reaches i some b in
       let starts_settled : is_settled settled (start_of (arc_at net (reach_at tree i).step.arc) (reach_at tree i).step.forward) ≡ true =
-        rw old.starts (is_tree.are_settled (reach_at tree i).from (omega (arith, old.from))) in
+      rw old.starts (is_tree.are_settled (reach_at tree i).from (omega (arith, old.from))) in
       let ends_settled : is_settled settled (end_of (arc_at net (reach_at tree i).step.arc) (reach_at tree i).step.forward) ≡ true =
-        rw old.ends (is_tree.are_settled i b) in
+      rw old.ends (is_tree.are_settled i b) in
       let here : end_of (arc_at net (reach_at tree i).step.arc) r.step.forward ≡ v = ap (λ a. end_of (arc_at net a) r.step.forward) same ∙ reached.ends in
       elim (end_among (arc_at net (reach_at tree i).step.arc) r.step.forward (reach_at tree i).step.forward) [
-        inl at_start ↦ both_ways (is_settled settled v) unsettled (ap (is_settled settled) (sym here ∙ at_start) ∙ starts_settled)
-      | inr at_end ↦ both_ways (is_settled settled v) unsettled (ap (is_settled settled) (sym here ∙ at_end) ∙ ends_settled)
+        | inl at_start ↦ both_ways (is_settled settled v) unsettled (ap (is_settled settled) (sym here ∙ at_start) ∙ starts_settled)
+        | inr at_end ↦ both_ways (is_settled settled v) unsettled (ap (is_settled settled) (sym here ∙ at_end) ∙ ends_settled)
       ]
 
   -- the new node is near each settled one
@@ -135,38 +145,38 @@ module _ (net : NetworkValue) (state : State) (source : ℕ) (tree : List Reach)
         root_width = rw (grown-old tree r 0 is_tree.some) is_tree.root_width;
         root_some = rw (grown-old tree r 0 is_tree.some) is_tree.root_some;
         nodes = λ i b. elim (grown-cases tree r i b) [
-            inl old ↦ rw old.1 (is_tree.nodes i old.0)
+          | inl old ↦ rw old.1 (is_tree.nodes i old.0)
           | inr new ↦ rw (new.1, reached.node) v_in
-          ];
+        ];
         are_settled = λ i b. elim (grown-cases tree r i b) [
-            inl old ↦ rw (old.1, marked-other settled v in_settled (reach_at tree i).node (settled_apart settled (reach_at tree i).node v (is_tree.are_settled i old.0) unsettled)) (is_tree.are_settled i old.0)
+          | inl old ↦ rw (old.1, marked-other settled v in_settled (reach_at tree i).node (settled_apart settled (reach_at tree i).node v (is_tree.are_settled i old.0) unsettled)) (is_tree.are_settled i old.0)
           | inr new ↦ rw (new.1, reached.node) (marked-here settled v in_settled)
-          ];
+        ];
         reaches = λ i some b. elim (grown-cases tree r i b) [
-            inl old ↦
+          | inl old ↦
               let was = is_tree.reaches i some old.0 in
               rw old.1 (IsReach-grown tree r net state distances i (reach_at tree i) (reach_at tree i).node (omega (arith, was.from)) was)
           | inr new ↦
               let at_node : IsReach net state tree' distances (length tree) r r.node =
-                subst (λ x. IsReach net state tree' distances (length tree) r x) (sym reached.node) (IsReach-grown tree r net state distances (length tree) r v reached.from reached) in
+              subst (λ x. IsReach net state tree' distances (length tree) r x) (sym reached.node) (IsReach-grown tree r net state distances (length tree) r v reached.from reached) in
               rw (new.1, new.0) at_node
-          ];
+        ];
         apart = λ i j some less b. elim (grown-cases tree r j b) [
-            inl old ↦ rw (old.1, grown-old tree r i (omega arith)) (is_tree.apart i j some less old.0)
+          | inl old ↦ rw (old.1, grown-old tree r i (omega arith)) (is_tree.apart i j some less old.0)
           | inr new ↦ rw (new.1, grown-old tree r i (omega arith)) (arc_new i some (omega arith))
-          ];
+        ];
         near = λ u w su sw.
-          let n : length tree' - 1 ≡ length tree = omega (arith, long) in
-          rw n (elim (marked-cases settled v in_settled u su) [
-            inl u_new ↦ elim (marked-cases settled v in_settled w sw) [
-                inl w_new ↦ rw (u_new, w_new) (omega (arith, ints))
-              | inr w_old ↦ rw u_new (near_new w w_old.1).1
+            let n : length tree' - 1 ≡ length tree = omega (arith, long) in
+            rw n (elim (marked-cases settled v in_settled u su) [
+              | inl u_new ↦ elim (marked-cases settled v in_settled w sw) [
+                | inl w_new ↦ rw (u_new, w_new) (omega (arith, ints))
+                | inr w_old ↦ rw u_new (near_new w w_old.1).1
               ]
-          | inr u_old ↦ elim (marked-cases settled v in_settled w sw) [
-                inl w_new ↦ rw w_new (near_new u u_old.1).0
-              | inr w_old ↦ let h = is_tree.near u w u_old.1 w_old.1 in omega (arith, ints, h)
+              | inr u_old ↦ elim (marked-cases settled v in_settled w sw) [
+                | inl w_new ↦ rw w_new (near_new u u_old.1).0
+                | inr w_old ↦ let h = is_tree.near u w u_old.1 w_old.1 in omega (arith, ints, h)
               ]
-          ]);
+            ]);
       }
 
 -- the search once its nearest node is settled
@@ -186,25 +196,27 @@ IsSearchOf-settle net state source node tree reaches distances settled waiting g
     let last : length (tree ++ r ∷ []) - 1 ≡ length tree = omega (arith, long) in
     record {
       is_tree = IsTree-grown net state source tree distances settled good is_tree r v v_in unsettled reached;
-      distances_long = search.distances_long; reaches_long = search.reaches_long; node_in = v_in;
+      distances_long = search.distances_long;
+      reaches_long = search.reaches_long;
+      node_in = v_in;
       node_settled = marked-here settled v in_settled;
       node_last = rw (last, grown-new tree r) reached.node;
       candidates = λ u u_in uns reached_u.
-        let was = search.candidates u u_in (unmarked settled v in_settled u uns).1 reached_u in
-        IsReach-grown tree r net state distances (length (tree ++ r ∷ [])) (reach_at reaches u) u was.from (IsReach-wider net state tree distances (length tree) (length (tree ++ r ∷ [])) (reach_at reaches u) u (omega (arith, long)) was);
+          let was = search.candidates u u_in (unmarked settled v in_settled u uns).1 reached_u in
+          IsReach-grown tree r net state distances (length (tree ++ r ∷ [])) (reach_at reaches u) u was.from (IsReach-wider net state tree distances (length tree) (length (tree ++ r ∷ [])) (reach_at reaches u) u (omega (arith, long)) was);
       nearer = λ u s. elim (marked-cases settled v in_settled u s) [
-          inl e ↦ rw e (omega arith)
+        | inl e ↦ rw e (omega arith)
         | inr old ↦ omega (arith, search.nearer u old.1, search.further v v_in unsettled)
-        ];
+      ];
       further = λ u u_in uns. nearest u u_in (unmarked settled v in_settled u uns).1;
       queued = λ d u waits. search.queued d u (only d u waits);
       waits = λ u u_in uns reached_u. let old = unmarked settled v in_settled u uns in kept (distance_at distances u) u (search.waits u u_in old.1 reached_u) old.1 old.0;
       relaxed = λ u s ne. elim (marked-cases settled v in_settled u s) [
-          inl e ↦ absurd (ne e)
+        | inl e ↦ absurd (ne e)
         | inr old ↦ elim (cases_eq u node) [ inl e ↦ rw e done | inr other ↦ search.relaxed u old.1 other ]
-        ];
+      ];
       calm = λ u s ne. elim (marked-cases settled v in_settled u s) [
-          inl e ↦ absurd (ne e)
+        | inl e ↦ absurd (ne e)
         | inr old ↦ elim (cases_eq u node) [ inl e ↦ rw e calm | inr other ↦ search.calm u old.1 other ]
-        ];
+      ];
     }

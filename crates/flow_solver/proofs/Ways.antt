@@ -39,18 +39,18 @@ module _ (old new : List ℤ) (from to amount : ℕ) (shifted : IsShifted old ne
 
   pub others_stay : (excess_at old to +ℤ pos amount) ≤ℤ pos 0 → (v : ℕ) → excess_at old v ≤ℤ pos 0 → excess_at new v ≤ℤ pos 0
   others_stay little v poor = elim (cases_eq v from) [
-      inl e ↦ rw e (let poor' = rw e at poor in omega (arith, ints, at_from, poor'))
+    | inl e ↦ rw e (let poor' = rw e at poor in omega (arith, ints, at_from, poor'))
     | inr not_from ↦ elim (cases_eq v to) [
-        inl e ↦ rw (e, at_to) little
+      | inl e ↦ rw (e, at_to) little
       | inr not_to ↦ rw (at_other v not_from not_to) poor
-      ]
     ]
+  ]
 
   pub calm_stays : (net : NetworkValue) (potentials : List ℤ) → pos amount ≤ℤ excess_at old from → excess_at old to <ℤ pos 0 → AreCalm net old potentials → AreCalm net new potentials
   calm_stays net potentials enough lacks calm v b lack = elim (cases_eq v from) [
-      inl e ↦ let lack' = rw e at lack in absurd (omega (arith, ints, from_rich enough, lack'))
+    | inl e ↦ let lack' = rw e at lack in absurd (omega (arith, ints, from_rich enough, lack'))
     | inr not_from ↦ elim (cases_eq v to) [
-        inl e ↦ calm v b (rw e lacks)
+      | inl e ↦ calm v b (rw e lacks)
       | inr not_to ↦ calm v b (rw (at_other v not_from not_to) at lack)
-      ]
     ]
+  ]

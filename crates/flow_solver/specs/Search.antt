@@ -107,4 +107,4 @@ pub record IsClosed (net : NetworkValue) (state : State) (source : ℕ) (settled
   pub source_settled : is_settled settled source ≡ true
   pub calm : (v : ℕ) → is_settled settled v ≡ true → pos 0 ≤ℤ excess_at state.excess.items v
   pub closed : (a : ℕ) (forward : Bool) → a < length net.arcs → is_settled settled (start_of (arc_at net a) forward) ≡ true
-    → 0 < left_on (arc_at net a) (slice_index state.flow.items a) forward → is_settled settled (end_of (arc_at net a) forward) ≡ true
+      → 0 < left_on (arc_at net a) (slice_index state.flow.items a) forward → is_settled settled (end_of (arc_at net a) forward) ≡ true

@@ -3,10 +3,9 @@ ghost use Rattle.std.specs.Prelude.{◌≡◌, ◌<◌, ◌≤◌, length, ℕ, 
 ghost use Rattle.bounded_network.specs.Network.{IsNetwork, potential_at};
 ghost use Rattle.flow_solver.specs.State.{IsWithin};
 
+use crate::step::{arc_count, arc_of};
 use bounded_network::{MAX_COST, Network};
 use std::alloc::{AllocError, Global};
-
-use crate::step::{arc_count, arc_of};
 
 // How often all arcs are gone over.
 const ROUNDS: u32 = 3;
@@ -38,7 +37,11 @@ fn raise_all(net: &Network, potentials: &mut Vec<i64>)
     for place in 0..arc_count(net) {
         let arc = arc_of(net, place);
         if arc.floor < arc.room {
-            let value = raised(potentials[arc.tail as usize], potentials[arc.head as usize], arc.cost);
+            let value = raised(
+                potentials[arc.tail as usize],
+                potentials[arc.head as usize],
+                arc.cost,
+            );
             potentials[arc.tail as usize] = value;
         }
     }

@@ -3,10 +3,9 @@ ghost use Rattle.std.specs.Prelude.{◌≡◌, ◌<◌, ◌≤◌, ◌⊎◌, le
 ghost use Rattle.flow_solver.specs.Links.{AreLinks, IsBound};
 ghost use Rattle.bounded_network.specs.Network.{arc_at};
 
+use crate::step::{arc_count, arc_of};
 use bounded_network::Network;
 use std::alloc::{AllocError, Global};
-
-use crate::step::{arc_count, arc_of};
 
 /// The arcs at each node, as chains from the last arc to the first. A bound is one more than the place of an arc, and 0
 /// where there is none.

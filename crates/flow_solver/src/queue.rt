@@ -17,7 +17,9 @@ pub struct Queue {
 pub fn empty(alloc: Global) -> Queue
     ensures none { (d v : ℕ) → Waits (heap_items result.waiting) d v → ⊥ }
 {
-    Queue { waiting: BinaryHeap::new(alloc) }
+    Queue {
+        waiting: BinaryHeap::new(alloc),
+    }
 }
 
 pub fn push(queue: &mut Queue, distance: u64, node: u32) -> Result<(), AllocError>

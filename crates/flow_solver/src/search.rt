@@ -9,13 +9,12 @@ ghost use Rattle.flow_solver.specs.State.{IsWithin, IsState, excess_at};
 ghost use Rattle.flow_solver.specs.Step.{start_of, end_of, step_cost, left_on, step_reduced};
 ghost use Rattle.flow_solver.specs.Search.{IsSearch, IsRelaxed, IsRelaxedFrom, IsReach, SameTree, IsFound, IsClosed, distance_at, reach_at, is_settled};
 
-use bounded_network::{Arc, Network};
-use std::alloc::{AllocError, Global};
-
 use crate::links::{Links, bound_before, last_bound};
 use crate::queue::{Queue, empty, pop, push};
 use crate::state::State;
 use crate::step::{Step, arc_of, cost, end, left, start};
+use bounded_network::{Arc, Network};
+use std::alloc::{AllocError, Global};
 
 // The distance of a node that is not reached.
 const UNREACHED: u64 = u64::MAX;
@@ -161,15 +160,25 @@ fn relax_arc(net: &Network, state: &State, search: &mut Search, arc: u32) -> Res
     ensures relaxed { OnOk result ((forward : Bool) → IsRelaxed net.now state.now search.new.distances.items search.old.node arc forward) }
 {
     relax_if(net, state, search, Step { arc, forward: true })?;
-    relax_if(net, state, search, Step {
-        arc,
-        forward: false,
-    })?;
+    relax_if(
+        net,
+        state,
+        search,
+        Step {
+            arc,
+            forward: false,
+        },
+    )?;
     Ok(())
 }
 
 // Relaxes all steps from the node that was settled last.
-fn relax_all(net: &Network, links: &Links, state: &State, search: &mut Search) -> Result<(), AllocError>
+fn relax_all(
+    net: &Network,
+    links: &Links,
+    state: &State,
+    search: &mut Search,
+) -> Result<(), AllocError>
     requires kept { IsState net.now state.now.flow.items state.now.excess.items state.now.potentials.items }
     requires links { AreLinks net.now links.now }
     requires search { IsSearch net.now state.now search.old }
@@ -230,7 +239,11 @@ pub fn width_of(excess: i128) -> u64
     ensures some { 0 < result }
     ensures within { pos result ≤ℤ excess }
 {
-    if excess < u64::MAX as i128 { excess as u64 } else { u64::MAX }
+    if excess < u64::MAX as i128 {
+        excess as u64
+    } else {
+        u64::MAX
+    }
 }
 
 /// A search that has settled its source alone.
@@ -271,7 +284,12 @@ pub fn begin(alloc: Global, net: &Network, state: &State, source: u32) -> Result
 }
 
 /// Settles nodes until one lacks something, which is then settled last and gives `true`, or until nothing waits.
-pub fn run(net: &Network, links: &Links, state: &State, search: &mut Search) -> Result<bool, AllocError>
+pub fn run(
+    net: &Network,
+    links: &Links,
+    state: &State,
+    search: &mut Search,
+) -> Result<bool, AllocError>
     requires kept { IsState net.now state.now.flow.items state.now.excess.items state.now.potentials.items }
     requires links { AreLinks net.now links.now }
     requires search { IsSearch net.now state.now search.old }

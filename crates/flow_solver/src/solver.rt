@@ -4,27 +4,37 @@ ghost use Rattle.flow_solver.specs.Links.{AreLinks};
 ghost use Rattle.flow_solver.specs.State.{IsWithin, IsState, AreCalm, AreBounded, excess_at};
 ghost use Rattle.flow_solver.specs.Solution.{IfSolved, IfUnsat};
 
-use bounded_network::Network;
-use std::alloc::{AllocError, Global};
-
 use crate::guess::first_potentials;
 use crate::links::{Links, links_of};
 use crate::search::{begin, run};
 use crate::start::start_at;
 use crate::state::State;
 use crate::way::augment;
+use bounded_network::Network;
+use std::alloc::{AllocError, Global};
 
 /// What the solver answers: nothing else is ever answered, whatever the network.
 #[derive(Drop)]
 pub enum Solution {
     /// A circulation of least cost: an amount for each arc, and a potential for each node that proves it.
-    Solved { flow: Vec<u64>, potentials: Vec<i64> },
+    Solved {
+        flow: Vec<u64>,
+        potentials: Vec<i64>,
+    },
     /// Marks of nodes into which more has to flow than can leave them, so that there is no circulation.
-    Unsat { marks: Vec<bool> },
+    Unsat {
+        marks: Vec<bool>,
+    },
 }
 
 // Carries away what the source has too much, or gives the marks of a set that can't get rid of it.
-fn drain(alloc: Global, net: &Network, links: &Links, state: &mut State, source: u32) -> Result<Option<Vec<bool>>, AllocError>
+fn drain(
+    alloc: Global,
+    net: &Network,
+    links: &Links,
+    state: &mut State,
+    source: u32,
+) -> Result<Option<Vec<bool>>, AllocError>
     requires kept { IsState net.now state.old.flow.items state.old.excess.items state.old.potentials.items }
     requires calm { AreCalm net.now state.old.excess.items state.old.potentials.items }
     requires links { AreLinks net.now links.now }

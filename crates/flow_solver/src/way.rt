@@ -5,10 +5,9 @@ ghost use Rattle.flow_solver.specs.Search.{IsFound, reach_at, distance_at};
 ghost use Rattle.flow_solver.specs.State.{IsWithin, IsState, IsShifted, AreCalm, excess_at};
 ghost use Rattle.flow_solver.specs.Way.{IsWay};
 
-use bounded_network::Network;
-
 use crate::search::{Reach, Search, width_of};
 use crate::state::{State, carry, fall};
+use bounded_network::Network;
 
 // Carries the amount along the tree from its root to its last node.
 fn carry_along(net: &Network, state: &mut State, tree: &[Reach], amount: u64)

@@ -18,4 +18,4 @@ returns-clause-search c =
     let e : c.index.result.now ≡ excess_at c.args.state.now.excess.items c.args.source = get_or_read _ _ _ b c.index.ensures (pos 0) in
     let within : pos c.width_of.result ≤ℤ excess_at c.args.state.now.excess.items c.args.source = omega (arith, ints, c.width_of.ensures.within, e) in
     rw (c.in_ok-push.ensures.items, c.new-tree.ensures.items, distances, settled)
-      (IsSearchOf-begin net c.args.state.now c.args.source _ c.in_ok-reaches.reaches.items (heap_items c.empty.result.waiting) c.requires.source_in refl c.width_of.ensures.some within long c.empty.ensures.none)
+    (IsSearchOf-begin net c.args.state.now c.args.source _ c.in_ok-reaches.reaches.items (heap_items c.empty.result.waiting) c.requires.source_in refl c.width_of.ensures.some within long c.empty.ensures.none)

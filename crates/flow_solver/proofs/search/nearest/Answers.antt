@@ -17,17 +17,17 @@ returns-then-not-done-clause-nearest c = λ d v waits uns. c.in-Some.ensures.nea
 
 pub loop-distance-preserved : goal.loop-distance-preserved
 loop-distance-preserved c = record {
-    only = λ d v waits. c.loop-distance.invariant.only d v (c.in-Some.ensures.only d v waits);
-    kept = λ d v waits uns. elim (c.in-Some.ensures.kept d v (c.loop-distance.invariant.kept d v waits uns)) [
-        inl stays ↦ stays
-      | inr popped ↦
-          let here : is_settled c.args.settled.now c.in-Some.node ≡ true = search rules in
-          absurd (both_ways (is_settled c.args.settled.now v) uns (ap (is_settled c.args.settled.now) popped.1 ∙ here))
-      ];
-  }
+  only = λ d v waits. c.loop-distance.invariant.only d v (c.in-Some.ensures.only d v waits);
+  kept = λ d v waits uns. elim (c.in-Some.ensures.kept d v (c.loop-distance.invariant.kept d v waits uns)) [
+    | inl stays ↦ stays
+    | inr popped ↦
+        let here : is_settled c.args.settled.now c.in-Some.node ≡ true = search rules in
+        absurd (both_ways (is_settled c.args.settled.now v) uns (ap (is_settled c.args.settled.now) popped.1 ∙ here))
+  ];
+}
 
 pub returns-clause-none : goal.returns-clause-none
 returns-clause-none c = λ d v waits. elim (cases_Bool (is_settled c.args.settled.now v)) [
-    inl s ↦ s
+  | inl s ↦ s
   | inr uns ↦ absurd (c.in_default.ensures.none d v (c.loop-distance.invariant.kept d v waits uns))
-  ]
+]

@@ -49,9 +49,9 @@ returns-clause-search c =
     let some : 0 < c.by-reach.result.width = c.by-reach.ensures.width (omega (arith, c.if-left-eq0.false)) last in
     let width_left = rw (left_is c) at c.by-reach.ensures.left in
     rw (same.source, same.node, same.tree, same.settled, c.in_ok-note.ensures.distances, c.in_ok-note.ensures.reaches)
-      (IsSearchOf-relax c.args.net.now c.args.state.now c.args.search.now.source c.args.search.now.node c.args.search.now.tree.items c.args.search.now.reaches.items c.args.search.now.distances.items c.args.search.now.settled.items (heap_items c.args.search.now.queue.waiting) c.arc_of-arc.ensures.kept c.requires.kept c.requires.search c.args.step c.requires.arc_in c.requires.starts (room c) c.end-to.result c.over-distance.result (to_is c) c.over-distance.ensures (lower c)
-        c.by-reach.result c.by-reach.ensures.node c.by-reach.ensures.from c.by-reach.ensures.step some width_left c.by-reach.ensures.narrow
-        (heap_items c.note.new.search.queue.waiting) c.in_ok-note.ensures.added c.in_ok-note.ensures.kept c.in_ok-note.ensures.only)
+    (IsSearchOf-relax c.args.net.now c.args.state.now c.args.search.now.source c.args.search.now.node c.args.search.now.tree.items c.args.search.now.reaches.items c.args.search.now.distances.items c.args.search.now.settled.items (heap_items c.args.search.now.queue.waiting) c.arc_of-arc.ensures.kept c.requires.kept c.requires.search c.args.step c.requires.arc_in c.requires.starts (room c) c.end-to.result c.over-distance.result (to_is c) c.over-distance.ensures (lower c)
+    c.by-reach.result c.by-reach.ensures.node c.by-reach.ensures.from c.by-reach.ensures.step some width_left c.by-reach.ensures.narrow
+    (heap_items c.note.new.search.queue.waiting) c.in_ok-note.ensures.added c.in_ok-note.ensures.kept c.in_ok-note.ensures.only)
 
 pub returns-clause-lower : goal.returns-clause-lower
 returns-clause-lower c = IsLowered-le _ _ _ _ (lowered c)

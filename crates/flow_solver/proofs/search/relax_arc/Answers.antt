@@ -14,6 +14,6 @@ returns-clause-relaxed c = λ forward.
     let at_node = c.in_ok-relax_if.ensures.same.node in
     let stays : distance_at two node ≡ distance_at one node = rw at_node at second.stays in
     elim forward as (λ f. IsRelaxed net state two node c.args.arc f) [
-      true ↦ IsRelaxed-lower net state one two node c.args.arc true second.lower stays c.in_ok-relax_if.ensures.relaxed
-    | false ↦ rw at_node at second.relaxed
+      | true ↦ IsRelaxed-lower net state one two node c.args.arc true second.lower stays c.in_ok-relax_if.ensures.relaxed
+      | false ↦ rw at_node at second.relaxed
     ]

@@ -37,9 +37,9 @@ next c =
     let near = c.in-Some.ensures in
     let value = c.deref.ensures.value in
     rw (done.source, done.node, done.tree, done.settled, done.reaches, done.distances, done.queue)
-      (IsSearchOf-next c.args.net.now c.args.state.now c.loop-node.search.source c.loop-node.search.node c.loop-node.search.tree.items c.loop-node.search.reaches.items c.loop-node.search.distances.items c.loop-node.search.settled.items
-        (heap_items c.loop-node.search.queue.waiting) (heap_items c.nearest.new.queue.waiting) c.nodes-nodes.ensures.kept was.search was.relaxed was.calm
-        c.in-Some.field-0-0 c.in-Some.node near.waited (rw value at near.unsettled) near.only (rw value at near.kept) (rw value at near.nearest))
+    (IsSearchOf-next c.args.net.now c.args.state.now c.loop-node.search.source c.loop-node.search.node c.loop-node.search.tree.items c.loop-node.search.reaches.items c.loop-node.search.distances.items c.loop-node.search.settled.items
+    (heap_items c.loop-node.search.queue.waiting) (heap_items c.nearest.new.queue.waiting) c.nodes-nodes.ensures.kept was.search was.relaxed was.calm
+    c.in-Some.field-0-0 c.in-Some.node near.waited (rw value at near.unsettled) near.only (rw value at near.kept) (rw value at near.nearest))
 
 pub returns-then-index-lt0-clause-found : goal.returns-then-index-lt0-clause-found
 returns-then-index-lt0-clause-found c =
@@ -78,4 +78,4 @@ pub returns-clause-closed : goal.returns-clause-closed
 returns-clause-closed c =
     let was = c.loop-node.invariant in
     IsClosed-from_search c.args.net.now c.args.state.now c.loop-node.search.source c.loop-node.search.node c.loop-node.search.tree.items c.loop-node.search.reaches.items c.loop-node.search.distances.items c.loop-node.search.settled.items
-      (heap_items c.loop-node.search.queue.waiting) c.nodes-nodes.ensures.kept c.requires.kept was.search was.relaxed was.calm (rw c.deref.ensures.value at c.in_default.ensures.none)
+    (heap_items c.loop-node.search.queue.waiting) c.nodes-nodes.ensures.kept c.requires.kept was.search was.relaxed was.calm (rw c.deref.ensures.value at c.in_default.ensures.none)

@@ -13,7 +13,7 @@ returns-in-Some-clause-none c =
 circulates : (c : After-loop-source) → IsCirculation c.args.net.now c.loop-source.state.flow.items
 circulates c =
     IsCirculation-from_poor c.args.net.now c.loop-source.state c.nodes-nodes.ensures.kept c.loop-source.invariant.kept
-      (λ v b. c.loop-source.invariant.poor v (omega (arith, b, c.nodes-source-end.ensures.value, c.loop-source-test.false)))
+    (λ v b. c.loop-source.invariant.poor v (omega (arith, b, c.nodes-source-end.ensures.value, c.loop-source-test.false)))
 
 pub returns-clause-circulates : goal.returns-clause-circulates
 returns-clause-circulates c = circulates (goal.at.returns-clause-circulates c).After-loop-source
@@ -21,7 +21,7 @@ returns-clause-circulates c = circulates (goal.at.returns-clause-circulates c).A
 pub returns-clause-cheapest : goal.returns-clause-cheapest
 returns-clause-cheapest c =
     cheapest-at_optimal c.args.net.now c.loop-source.state.flow.items c.loop-source.state.potentials.items c.nodes-nodes.ensures.kept
-      (circulates (goal.at.returns-clause-cheapest c).After-loop-source) c.loop-source.invariant.kept.optimal
+    (circulates (goal.at.returns-clause-cheapest c).After-loop-source) c.loop-source.invariant.kept.optimal
 
 pub returns-clause-uncut : goal.returns-clause-uncut
 returns-clause-uncut c = λ marks broken.

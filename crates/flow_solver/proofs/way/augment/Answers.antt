@@ -80,8 +80,8 @@ apart c same =
 pub returns-clause-calm : goal.returns-clause-calm
 returns-clause-calm c =
     rw c.carry_along.ensures.potentials
-      (calm_stays c.args.state.now.excess.items c.carry_along.new.state.excess.items c.args.search.now.source c.args.search.now.node c.min-amount.result (shifted c) (apart c)
-        c.args.net.now c.fall_to.new.state.potentials.items (enough c) c.requires.found.lacks (rw c.fall_to.ensures.excess at c.fall_to.ensures.calm))
+    (calm_stays c.args.state.now.excess.items c.carry_along.new.state.excess.items c.args.search.now.source c.args.search.now.node c.min-amount.result (shifted c) (apart c)
+    c.args.net.now c.fall_to.new.state.potentials.items (enough c) c.requires.found.lacks (rw c.fall_to.ensures.excess at c.fall_to.ensures.calm))
 
 pub returns-clause-falls : goal.returns-clause-falls
 returns-clause-falls c =

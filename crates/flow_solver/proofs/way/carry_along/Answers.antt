@@ -19,7 +19,7 @@ loop-place-preserved c =
       inside = omega (arith, way.froms i above was.inside, was.inside);
       wide = omega (arith, was.wide, way.narrow i above was.inside);
       flows = λ j j_above j_in.
-        let less : j < i = omega (arith, way.froms i above was.inside) in
-        rw c.carry.ensures.flow (get_or-set_other c.loop-place.state.flow.items reach.step.arc (reach_at tree j).step.arc _ 0 (way.apart j i j_above less was.inside) ∙ was.flows j j_above (omega arith));
+          let less : j < i = omega (arith, way.froms i above was.inside) in
+          rw c.carry.ensures.flow (get_or-set_other c.loop-place.state.flow.items reach.step.arc (reach_at tree j).step.arc _ 0 (way.apart j i j_above less was.inside) ∙ was.flows j j_above (omega arith));
       moved = IsShifted-back c.args.state.now.excess.items c.loop-place.state.excess.items c.carry.new.state.excess.items _ _ _ c.args.amount was.moved shifted;
     }
