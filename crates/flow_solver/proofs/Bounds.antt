@@ -1,6 +1,6 @@
 -- How large potentials and distances are.
-use Rattle.std.proofs.Common.{◌≡◌, ◌≢◌, ℕ, ◌+◌, ◌-◌, ◌*◌, ◌^◌, ◌<◌, ◌≤◌, ◌⊎◌, Bool, true, false, List, length, refl, sym, ap, ◌∙◌, arith, inl, inr}
-use Rattle.std.specs.Prelude.{ℤ, pos, ◌+ℤ◌, ◌-ℤ◌, ◌≤ℤ◌, ◌<ℤ◌, slice_index}
+use Rattle.std.proofs.Common.{◌≡◌, ℕ, ◌^◌, ◌<◌, Bool, true, false, List, length, ap, arith, inl, inr}
+use Rattle.std.specs.Prelude.{ℤ, pos, ◌+ℤ◌, ◌-ℤ◌, ◌<ℤ◌}
 use Rattle.std.specs.declared.cmp.Reverse.{Reverse}
 use Rattle.std.proofs.lemmas.Int.{ints}
 use Rattle.std.proofs.lemmas.Bool.{cases_lt, cases_eq}
@@ -9,10 +9,10 @@ use Rattle.bounded_network.specs.Network.{NetworkValue, IsNetwork, IsArc, arc_at
 use Rattle.bounded_network.specs.declared.network.Arc.{Arc}
 use Rattle.flow_solver.specs.declared.state.State.{State}
 use Rattle.flow_solver.specs.declared.search.Reach.{Reach}
-use Rattle.flow_solver.specs.Step.{start_of, end_of, step_cost, left_on, step_reduced}
-use Rattle.flow_solver.specs.State.{IsWithin, IsState, excess_at}
-use Rattle.flow_solver.specs.Search.{unreached, distance_at, reach_at, is_settled, height_at, IsTree, IsSearchOf}
-use Rattle.flow_solver.proofs.Searches.{IsStateOf, step_cost_within, step_not_negative}
+use Rattle.flow_solver.specs.Step.{start_of, end_of, step_cost, step_reduced}
+use Rattle.flow_solver.specs.State.{IsWithin}
+use Rattle.flow_solver.specs.Search.{distance_at, reach_at, is_settled, IsTree, IsSearchOf}
+use Rattle.flow_solver.proofs.Searches.{IsStateOf, step_cost_within}
 use Rattle.flow_solver.proofs.Settling.{tree_short}
 
 -- a potential is small

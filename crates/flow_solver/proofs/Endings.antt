@@ -1,17 +1,16 @@
 -- A closed set of nodes gives violated marks, and no excess a circulation.
-use Rattle.std.proofs.Common.{◌≡◌, ◌≢◌, ℕ, ◌+◌, ◌-◌, ◌*◌, ◌<◌, ◌≤◌, ◌⊎◌, Bool, true, false, not, ◌&&◌, List, length, refl, sym, ap, subst, ◌∙◌, arith, inl, inr}
-use Rattle.std.specs.Prelude.{ℤ, pos, negsuc, ◌+ℤ◌, ◌-ℤ◌, ◌*ℤ◌, ◌≤ℤ◌, ◌<ℤ◌, slice_index, if◌then◌else◌}
+use Rattle.std.proofs.Common.{◌≡◌, ℕ, ◌<◌, ◌≤◌, Bool, true, false, List, length, refl, sym, ◌∙◌, arith, inl, inr}
+use Rattle.std.specs.Prelude.{ℤ, pos, negsuc, ◌-ℤ◌, ◌*ℤ◌, ◌≤ℤ◌, ◌<ℤ◌, slice_index}
 use Rattle.std.proofs.lemmas.Int.{ints}
-use Rattle.std.proofs.lemmas.Bool.{cases_lt, cases_Bool, both_ways}
-use Rattle.std.proofs.Math.IntN.{*ℤ-zero, *ℤ-one}
-use Rattle.match_rules.specs.Sums.{sum_below, when}
-use Rattle.bounded_network.specs.Network.{NetworkValue, IsNetwork, IsCirculation, AreViolated, entering, leaving, arc_at, is_marked, floors_into, rooms_out_of}
+use Rattle.std.proofs.lemmas.Bool.{cases_lt, both_ways}
+use Rattle.std.proofs.Math.IntN.{*ℤ-zero}
+use Rattle.match_rules.specs.Sums.{sum_below}
+use Rattle.bounded_network.specs.Network.{NetworkValue, IsNetwork, IsCirculation, AreViolated, entering, leaving, arc_at, is_marked}
 use Rattle.bounded_network.proofs.Scaled.{scale--ℤ}
-use Rattle.bounded_network.proofs.Sums.{sum_below-equal, sum_below-zero, sum_below-not_negative, term_le_sum}
+use Rattle.bounded_network.proofs.Sums.{sum_below-equal, sum_below-zero, term_le_sum}
 use Rattle.bounded_network.proofs.Laws.{rises-are-excesses, mark_weight, mark_bound, mark_bounds-sum}
 use Rattle.flow_solver.specs.declared.state.State.{State}
-use Rattle.flow_solver.specs.Step.{start_of, end_of, left_on}
-use Rattle.flow_solver.specs.State.{IsState, excess_at}
+use Rattle.flow_solver.specs.State.{excess_at}
 use Rattle.flow_solver.specs.Search.{is_settled, IsClosed}
 use Rattle.flow_solver.proofs.Searches.{IsStateOf}
 

@@ -1,16 +1,15 @@
 -- The state once the potentials of the settled nodes have fallen.
-use Rattle.std.proofs.Common.{◌≡◌, ◌≢◌, ℕ, ◌+◌, ◌-◌, ◌*◌, ◌^◌, ◌<◌, ◌≤◌, ◌⊎◌, Bool, true, false, List, length, refl, sym, ap, subst, ◌∙◌, arith, inl, inr}
+use Rattle.std.proofs.Common.{◌≡◌, ◌≢◌, ℕ, ◌-◌, ◌*◌, ◌<◌, ◌≤◌, Bool, true, false, List, length, refl, ap, ◌∙◌, arith, inl, inr}
 use Rattle.std.specs.Prelude.{ℤ, pos, ◌+ℤ◌, ◌-ℤ◌, ◌≤ℤ◌, ◌<ℤ◌, slice_index}
 use Rattle.std.specs.declared.cmp.Reverse.{Reverse}
 use Rattle.std.proofs.lemmas.Int.{ints}
-use Rattle.std.proofs.lemmas.Bool.{cases_Bool, cases_eq, cases_lt}
-use Rattle.bounded_network.specs.Network.{NetworkValue, IsNetwork, AreOptimal, arc_at, potential_at, reduced_cost}
+use Rattle.std.proofs.lemmas.Bool.{cases_Bool, cases_lt}
+use Rattle.bounded_network.specs.Network.{NetworkValue, IsNetwork, AreOptimal, arc_at, potential_at}
 use Rattle.flow_solver.specs.declared.state.State.{State}
 use Rattle.flow_solver.specs.declared.search.Reach.{Reach}
-use Rattle.flow_solver.specs.Queue.{Waits}
-use Rattle.flow_solver.specs.Step.{start_of, end_of, step_cost, left_on, step_reduced}
+use Rattle.flow_solver.specs.Step.{start_of, end_of, left_on, step_reduced}
 use Rattle.flow_solver.specs.State.{IsWithin, IsState, AreCalm, AreFallen, excess_at}
-use Rattle.flow_solver.specs.Search.{distance_at, reach_at, is_settled, height_at, IsTree, IsSearchOf, IsRelaxed}
+use Rattle.flow_solver.specs.Search.{distance_at, reach_at, is_settled, IsSearchOf}
 use Rattle.flow_solver.specs.Way.{IsWay}
 use Rattle.flow_solver.proofs.Searches.{IsStateOf, step_not_negative}
 use Rattle.flow_solver.proofs.Settling.{tree_short}

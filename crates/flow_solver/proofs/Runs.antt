@@ -1,6 +1,6 @@
 -- The search as it begins and ends.
-use Rattle.std.proofs.Common.{◌≡◌, ◌≢◌, ℕ, zero, suc, ◌+◌, ◌-◌, ◌*◌, ◌^◌, ◌<◌, ◌≤◌, ◌⊎◌, Bool, true, false, List, [], ◌∷◌, ◌++◌, length, get_or-set_same, get_or-set_other, refl, sym, ap, subst, ◌∙◌, arith, inl, inr}
-use Rattle.std.specs.Prelude.{ℤ, pos, ◌+ℤ◌, ◌-ℤ◌, ◌≤ℤ◌, ◌<ℤ◌, slice_index, slice_set, replicate}
+use Rattle.std.proofs.Common.{◌≡◌, ◌≢◌, ℕ, ◌<◌, ◌≤◌, ◌⊎◌, Bool, true, false, List, [], ◌∷◌, ◌++◌, length, get_or-set_same, get_or-set_other, refl, sym, ap, subst, ◌∙◌, arith, inl, inr}
+use Rattle.std.specs.Prelude.{pos, ◌≤ℤ◌, slice_set, replicate}
 use Rattle.std.specs.declared.cmp.Reverse.{Reverse}
 use Rattle.std.proofs.lemmas.Int.{ints}
 use Rattle.std.proofs.lemmas.Bool.{cases_Bool, cases_eq, cases_lt, both_ways}
@@ -8,14 +8,14 @@ use Rattle.std.proofs.lemmas.List.{length-set, length-replicate, get_or-replicat
 use Rattle.bounded_network.proofs.Sums.{count_below-at_most}
 use Rattle.flow_solver.proofs.States.{count_below-change}
 use Rattle.match_rules.specs.Sums.{count_below, when}
-use Rattle.bounded_network.specs.Network.{NetworkValue, IsNetwork, arc_at, potential_at}
+use Rattle.bounded_network.specs.Network.{NetworkValue, IsNetwork, arc_at}
 use Rattle.flow_solver.specs.declared.state.State.{State}
 use Rattle.flow_solver.specs.declared.search.Reach.{Reach}
 use Rattle.flow_solver.specs.Queue.{Waits}
-use Rattle.flow_solver.specs.Step.{start_of, end_of, left_on, step_reduced}
-use Rattle.flow_solver.specs.State.{IsState, excess_at}
-use Rattle.flow_solver.specs.Search.{unreached, distance_at, reach_at, no_reach, is_settled, height_at, IsReach, IsTree, IsSearchOf, IsRelaxed, IsRelaxedFrom, IsClosed}
-use Rattle.flow_solver.proofs.Searches.{IsStateOf, step_not_negative}
+use Rattle.flow_solver.specs.Step.{start_of, end_of}
+use Rattle.flow_solver.specs.State.{excess_at}
+use Rattle.flow_solver.specs.Search.{unreached, distance_at, reach_at, is_settled, IsSearchOf, IsRelaxed, IsRelaxedFrom, IsClosed}
+use Rattle.flow_solver.proofs.Searches.{IsStateOf}
 use Rattle.flow_solver.proofs.Settling.{IsSearchOf-settle}
 use Rattle.flow_solver.proofs.Bounds.{end_in, over_settled_small}
 

@@ -1,18 +1,18 @@
 -- The search as its nearest node is settled.
-use Rattle.std.proofs.Common.{◌≡◌, ◌≢◌, ℕ, zero, suc, ◌+◌, ◌-◌, ◌*◌, ◌^◌, ◌<◌, ◌≤◌, ◌⊎◌, Bool, true, false, List, [], ◌∷◌, ◌++◌, length, get_or, get_or-set_same, get_or-set_other, refl, sym, ap, subst, ◌∙◌, arith, inl, inr}
-use Rattle.std.specs.Prelude.{ℤ, pos, negsuc, neg_ℤ, ◌+ℤ◌, ◌-ℤ◌, ◌≤ℤ◌, ◌<ℤ◌, slice_set, slice_index}
+use Rattle.std.proofs.Common.{◌≡◌, ◌≢◌, ℕ, ◌+◌, ◌-◌, ◌*◌, ◌<◌, ◌≤◌, ◌⊎◌, Bool, true, false, List, [], ◌∷◌, ◌++◌, length, get_or-set_same, get_or-set_other, refl, sym, ap, subst, ◌∙◌, arith, inl, inr}
+use Rattle.std.specs.Prelude.{ℤ, pos, ◌+ℤ◌, ◌-ℤ◌, ◌≤ℤ◌, slice_set}
 use Rattle.std.specs.declared.cmp.Reverse.{Reverse}
 use Rattle.std.proofs.lemmas.Int.{ints}
-use Rattle.std.proofs.lemmas.Bool.{cases_eq, cases_lt, cases_Bool, both_ways}
+use Rattle.std.proofs.lemmas.Bool.{cases_eq, cases_lt, both_ways}
 use Rattle.std.proofs.lemmas.List.{length-set, get_or_push, get_or_append_left, length_push}
 use Rattle.match_rules.specs.Sums.{count_below, when}
-use Rattle.bounded_network.specs.Network.{NetworkValue, IsNetwork, IsArc, arc_at, potential_at}
+use Rattle.bounded_network.specs.Network.{NetworkValue, IsNetwork, arc_at, potential_at}
 use Rattle.bounded_network.proofs.Sums.{count_below-at_most}
 use Rattle.flow_solver.specs.declared.state.State.{State}
 use Rattle.flow_solver.specs.declared.search.Reach.{Reach}
 use Rattle.flow_solver.specs.Queue.{Waits}
-use Rattle.flow_solver.specs.Step.{start_of, end_of, step_cost, left_on, step_reduced}
-use Rattle.flow_solver.specs.State.{IsWithin, IsState, excess_at}
+use Rattle.flow_solver.specs.Step.{start_of, end_of, step_cost, step_reduced}
+use Rattle.flow_solver.specs.State.{excess_at}
 use Rattle.flow_solver.specs.Search.{unreached, distance_at, reach_at, no_reach, is_settled, height_at, IsReach, IsRelaxedFrom, IsTree, IsSearchOf}
 use Rattle.flow_solver.proofs.States.{count_below-change, when_at_most}
 use Rattle.flow_solver.proofs.Searches.{step_cost_within, end_among, settled_apart}

@@ -1,13 +1,13 @@
 -- The state after an amount is carried over a step.
-use Rattle.std.proofs.Common.{◌≡◌, ◌≢◌, ℕ, zero, suc, ◌+◌, ◌-◌, ◌*◌, ◌^◌, ◌<◌, ◌≤◌, ◌⊎◌, Bool, true, false, List, length, get_or, get_or-set_same, get_or-set_other, refl, sym, ap, ◌∙◌, arith, inl, inr}
-use Rattle.std.specs.Prelude.{ℤ, pos, negsuc, neg_ℤ, ◌+ℤ◌, ◌-ℤ◌, ◌≤ℤ◌, ◌==◌, slice_set, slice_index, if◌then◌else◌}
+use Rattle.std.proofs.Common.{◌≡◌, ◌≢◌, ℕ, zero, suc, ◌+◌, ◌-◌, ◌*◌, ◌^◌, ◌<◌, ◌≤◌, ◌⊎◌, Bool, true, false, List, length, get_or-set_same, get_or-set_other, refl, sym, ap, ◌∙◌, arith, inl, inr}
+use Rattle.std.specs.Prelude.{ℤ, pos, ◌-ℤ◌, ◌==◌, slice_set, slice_index}
 use Rattle.std.proofs.lemmas.Int.{ints}
-use Rattle.std.proofs.lemmas.Bool.{cases_eq, cases_lt, cases_Bool}
+use Rattle.std.proofs.lemmas.Bool.{cases_eq, cases_lt}
 use Rattle.std.proofs.lemmas.List.{length-set, get_or_past}
 use Rattle.match_rules.specs.Sums.{count_below, when}
-use Rattle.bounded_network.specs.Network.{NetworkValue, IsNetwork, IsArc, AreOptimal, entering, leaving, arc_at, potential_at, reduced_cost}
-use Rattle.bounded_network.proofs.Sums.{count_below-equal, count_below-at_most, when-same, when-other}
-use Rattle.flow_solver.specs.Step.{start_of, end_of, step_cost, left_on, step_reduced, carried}
+use Rattle.bounded_network.specs.Network.{NetworkValue, IsNetwork, entering, leaving, arc_at, reduced_cost}
+use Rattle.bounded_network.proofs.Sums.{count_below-equal, count_below-at_most}
+use Rattle.flow_solver.specs.Step.{start_of, end_of, left_on, step_reduced, carried}
 use Rattle.flow_solver.specs.State.{IsWithin, IsState, IsShifted, excess_at}
 
 -- one term changed

@@ -1,12 +1,11 @@
 -- An amount that moves back along a way, and what it leaves.
-use Rattle.std.proofs.Common.{◌≡◌, ◌≢◌, ℕ, ◌+◌, ◌-◌, ◌<◌, ◌≤◌, ◌⊎◌, List, length, refl, sym, ap, subst, ◌∙◌, arith, inl, inr}
-use Rattle.std.specs.Prelude.{ℤ, pos, ◌+ℤ◌, ◌-ℤ◌, ◌≤ℤ◌, ◌<ℤ◌, ◌==◌}
+use Rattle.std.proofs.Common.{◌≡◌, ◌≢◌, ℕ, ◌<◌, List, sym, arith, inl, inr}
+use Rattle.std.specs.Prelude.{ℤ, pos, ◌+ℤ◌, ◌-ℤ◌, ◌≤ℤ◌, ◌<ℤ◌}
 use Rattle.std.proofs.lemmas.Int.{ints}
 use Rattle.std.proofs.lemmas.Bool.{cases_eq}
-use Rattle.match_rules.specs.Sums.{when}
 use Rattle.bounded_network.proofs.Sums.{when-same, when-other}
-use Rattle.bounded_network.specs.Network.{NetworkValue, potential_at}
-use Rattle.flow_solver.specs.State.{IsWithin, IsShifted, AreCalm, excess_at}
+use Rattle.bounded_network.specs.Network.{NetworkValue}
+use Rattle.flow_solver.specs.State.{IsShifted, AreCalm, excess_at}
 
 -- one step further back
 pub IsShifted-back : (a b c : List ℤ) (from mid to amount : ℕ) → IsShifted a b mid to amount → IsShifted b c from mid amount → IsShifted a c from to amount

@@ -1,5 +1,5 @@
 -- The arcs at each node, as chains from the last arc to the first.
-use Rattle.std.specs.Prelude.{ℕ, ◌≡◌, ◌-◌, ◌<◌, ◌≤◌, ◌⊎◌, ◌≢◌, List, length, slice_index}
+use Rattle.std.specs.Prelude.{ℕ, ◌≡◌, ◌-◌, ◌<◌, ◌≤◌, ◌⊎◌, ◌≢◌, length, slice_index}
 use Rattle.bounded_network.specs.Network.{NetworkValue, arc_at}
 use Rattle.flow_solver.specs.declared.links.Links.{Links}
 

@@ -1,3 +1,5 @@
+ghost use Rattle.std.specs.Prelude.{◌<◌};
+
 use super::{Solution, solve};
 use bounded_network::{Arc, MAX_COST, MAX_ROOM, Network};
 use std::alloc::Global;

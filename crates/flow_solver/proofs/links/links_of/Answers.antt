@@ -1,7 +1,6 @@
 use Rattle.std.proofs.Common.{◌≡◌, arith, length, ◌<◌}
 use Rattle.std.specs.Prelude.{slice_index}
 use Rattle.std.proofs.lemmas.List.{get_or_read}
-use Rattle.bounded_network.specs.Network.{arc_at}
 use Rattle.flow_solver.proofs.Chains.{AreLinksTo-more}
 use Rattle.flow_solver.proofs.links.links_of.Goals as goal
 

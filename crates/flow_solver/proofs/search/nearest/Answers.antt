@@ -1,7 +1,5 @@
-use Rattle.std.proofs.Common.{◌≡◌, ◌<◌, ℕ, true, false, length, inl, inr, rules, ap, sym, ◌∙◌}
+use Rattle.std.proofs.Common.{◌≡◌, true, inl, inr, rules, ap, ◌∙◌}
 use Rattle.std.proofs.lemmas.Bool.{both_ways, cases_Bool}
-use Rattle.std.specs.BinaryHeap.{heap_items}
-use Rattle.flow_solver.specs.Queue.{Waits}
 use Rattle.flow_solver.specs.Search.{is_settled}
 use Rattle.flow_solver.proofs.search.nearest.Goals as goal
 

@@ -1,9 +1,8 @@
-use Rattle.std.proofs.Common.{◌≡◌, ◌<◌, ◌≤◌, ◌^◌, arith, length, ap, ◌∙◌, sym}
-use Rattle.std.specs.Prelude.{ℤ, pos, ◌+ℤ◌, ◌-ℤ◌, ◌≤ℤ◌, ◌<ℤ◌, slice_index}
+use Rattle.std.proofs.Common.{◌≡◌, ◌<◌, arith, length, ap, ◌∙◌}
+use Rattle.std.specs.Prelude.{pos, ◌+ℤ◌, ◌-ℤ◌}
 use Rattle.std.proofs.lemmas.Int.{ints}
 use Rattle.std.proofs.lemmas.List.{get_or_read}
 use Rattle.bounded_network.specs.Network.{arc_at, potential_at}
-use Rattle.flow_solver.specs.State.{IsWithin}
 use Rattle.flow_solver.specs.Step.{end_of, step_reduced}
 use Rattle.flow_solver.specs.Search.{distance_at}
 use Rattle.flow_solver.proofs.Searches.{step_not_negative}

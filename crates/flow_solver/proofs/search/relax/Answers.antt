@@ -1,5 +1,5 @@
-use Rattle.std.proofs.Common.{◌≡◌, ◌<◌, ◌≤◌, ◌-◌, arith, length, ap, ◌∙◌, sym}
-use Rattle.std.specs.Prelude.{ℤ, pos, slice_index}
+use Rattle.std.proofs.Common.{◌≡◌, ◌<◌, ◌-◌, arith, length, ap}
+use Rattle.std.specs.Prelude.{slice_index}
 use Rattle.std.proofs.lemmas.List.{get_or_read}
 use Rattle.std.proofs.lemmas.Int.{ints}
 use Rattle.bounded_network.specs.Network.{arc_at}
@@ -9,7 +9,7 @@ use Rattle.std.specs.BinaryHeap.{heap_items}
 use Rattle.flow_solver.proofs.Bounds.{end_in, width_some}
 use Rattle.flow_solver.proofs.Settling.{tree_short}
 use Rattle.flow_solver.proofs.Searches.{IsLowered, IsLowered-le}
-use Rattle.flow_solver.proofs.Relaxing.{IsSearchOf-relax, to_lowered, node_apart, to_in}
+use Rattle.flow_solver.proofs.Relaxing.{IsSearchOf-relax, to_lowered, node_apart}
 use Rattle.flow_solver.proofs.search.relax.Goals as goal
 use Rattle.flow_solver.proofs.search.relax.Goals.{In_ok-note}
 

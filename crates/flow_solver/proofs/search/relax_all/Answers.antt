@@ -1,5 +1,5 @@
-use Rattle.std.proofs.Common.{◌≡◌, ◌<◌, ◌≤◌, ◌+◌, ◌-◌, arith, sym, ap, subst, ◌∙◌, rules, length}
-use Rattle.flow_solver.specs.Search.{distance_at, IsRelaxedFrom, SameTree}
+use Rattle.std.proofs.Common.{◌≡◌, ◌+◌, ◌-◌, arith, sym, subst}
+use Rattle.flow_solver.specs.Search.{IsRelaxedFrom}
 use Rattle.flow_solver.proofs.Relaxing.{IsRelaxedFrom-more, SameTree-then}
 use Rattle.flow_solver.proofs.search.relax_all.Goals as goal
 

@@ -1,4 +1,4 @@
-use Rattle.std.proofs.Common.{◌≡◌, Bool, true, false, sym, ap, ◌∙◌}
+use Rattle.std.proofs.Common.{◌≡◌, true, false}
 use Rattle.flow_solver.specs.Search.{distance_at, IsRelaxed}
 use Rattle.flow_solver.proofs.Relaxing.{IsRelaxed-lower}
 use Rattle.flow_solver.proofs.search.relax_arc.Goals as goal

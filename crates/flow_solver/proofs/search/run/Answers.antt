@@ -1,10 +1,10 @@
-use Rattle.std.proofs.Common.{◌≡◌, ◌<◌, ◌≤◌, ◌+◌, ◌-◌, false, true, List, [], ◌∷◌, ◌++◌, length, arith, sym, ap, subst, ◌∙◌, rules}
-use Rattle.std.specs.Prelude.{ℤ, pos, ◌≤ℤ◌, ◌<ℤ◌, slice_set}
+use Rattle.std.proofs.Common.{◌≡◌, ◌<◌, ◌+◌, length, arith, ◌∙◌}
+use Rattle.std.specs.Prelude.{pos}
 use Rattle.std.specs.BinaryHeap.{heap_items}
 use Rattle.std.proofs.lemmas.Int.{ints}
 use Rattle.std.proofs.lemmas.List.{get_or_read, length_push}
 use Rattle.flow_solver.specs.State.{excess_at}
-use Rattle.flow_solver.specs.Search.{IsSearchOf, IsSearch, IsRelaxedFrom, is_settled}
+use Rattle.flow_solver.specs.Search.{IsSearch}
 use Rattle.flow_solver.proofs.Settling.{tree_short}
 use Rattle.flow_solver.proofs.Runs.{IsSearchOf-next, IsClosed-from_search}
 use Rattle.flow_solver.proofs.search.run.Goals as goal

@@ -1,6 +1,5 @@
 use Rattle.std.proofs.Common.{◌≡◌, ◌-◌, length}
 use Rattle.std.specs.Prelude.{pos, ◌≤ℤ◌}
-use Rattle.bounded_network.specs.Network.{IsNetwork}
 use Rattle.flow_solver.specs.State.{excess_at}
 use Rattle.flow_solver.specs.Search.{IsSearch, IsRelaxedFrom}
 use Rattle.flow_solver.proofs.search.run.Given as goal

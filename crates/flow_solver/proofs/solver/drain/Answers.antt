@@ -1,10 +1,9 @@
-use Rattle.std.proofs.Common.{◌≡◌, ◌<◌, ◌∙◌, length, arith, false, subst}
-use Rattle.std.specs.Prelude.{ℤ, pos, ◌<ℤ◌}
+use Rattle.std.proofs.Common.{◌≡◌, ◌<◌, ◌∙◌, length, arith}
+use Rattle.std.specs.Prelude.{pos, ◌<ℤ◌}
 use Rattle.std.proofs.lemmas.Int.{ints}
 use Rattle.std.proofs.lemmas.List.{get_or_read}
 use Rattle.std.proofs.lemmas.Bool.{OnFalse_at}
 use Rattle.flow_solver.specs.State.{excess_at}
-use Rattle.flow_solver.specs.Search.{IsClosed}
 use Rattle.flow_solver.proofs.Endings.{AreViolated-from_closed}
 use Rattle.flow_solver.proofs.solver.drain.Goals as goal
 

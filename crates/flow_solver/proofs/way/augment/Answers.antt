@@ -1,10 +1,10 @@
-use Rattle.std.proofs.Common.{◌≡◌, ◌≢◌, ◌<◌, ◌≤◌, ◌-◌, ◌∙◌, ℕ, length, arith, refl, sym, ap, min, subst}
-use Rattle.std.specs.Prelude.{ℤ, pos, ◌+ℤ◌, ◌≤ℤ◌, ◌<ℤ◌}
+use Rattle.std.proofs.Common.{◌≡◌, ◌≢◌, ◌<◌, ◌≤◌, ◌-◌, ◌∙◌, length, arith, ap}
+use Rattle.std.specs.Prelude.{pos, ◌+ℤ◌, ◌≤ℤ◌}
 use Rattle.std.proofs.lemmas.Int.{ints}
 use Rattle.std.proofs.lemmas.List.{get_or_read}
 use Rattle.flow_solver.specs.declared.search.Reach.{Reach}
 use Rattle.flow_solver.specs.Search.{reach_at, no_reach}
-use Rattle.flow_solver.specs.State.{IsShifted, IsWithin, excess_at}
+use Rattle.flow_solver.specs.State.{IsShifted, excess_at}
 use Rattle.flow_solver.proofs.Bounds.{width_some}
 use Rattle.flow_solver.proofs.States.{excess_within}
 use Rattle.flow_solver.proofs.Ways.{from_falls, from_rich, others_stay, calm_stays}

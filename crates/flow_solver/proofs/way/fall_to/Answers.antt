@@ -1,9 +1,8 @@
-use Rattle.std.proofs.Common.{◌≡◌, ◌<◌, ◌≤◌, ◌∙◌, ℕ, List, take, drop, length, ◌++◌, arith, refl, sym, ap}
-use Rattle.std.specs.Prelude.{ℤ}
+use Rattle.std.proofs.Common.{◌≡◌, ◌<◌, take, drop, length, ◌++◌, arith, refl}
 use Rattle.std.specs.BinaryHeap.{heap_items}
 use Rattle.std.proofs.lemmas.List.{get_or_read}
 use Rattle.std.proofs.lemmas.Grind.{common_steps}
-use Rattle.flow_solver.specs.Search.{distance_at, reach_at}
+use Rattle.flow_solver.specs.Search.{distance_at}
 use Rattle.flow_solver.specs.State.{AreFallen}
 use Rattle.flow_solver.proofs.Bounds.{settled_small}
 use Rattle.flow_solver.proofs.Falling.{IsState-fallen, AreCalm-fallen, IsWay-fallen}
