@@ -1,10 +1,10 @@
 -- Optimal potentials make a circulation cheapest, and violated marks exclude every circulation.
-use Rattle.std.proofs.Common.{◌≡◌, ℕ, zero, suc, ◌+◌, ◌-◌, ◌*◌, ◌<◌, ◌≤◌, Bool, true, false, not, ◌&&◌, List, length, refl, sym, ap, ◌∙◌, arith, inl, inr}
-use Rattle.std.specs.Prelude.{ℤ, pos, negsuc, ◌+ℤ◌, ◌-ℤ◌, ◌*ℤ◌, ◌≤ℤ◌, ◌<ℤ◌, ◌==◌, slice_index, slice_index_or, if◌then◌else◌}
+use Rattle.std.proofs.Common.{◌≡◌, ℕ, ◌<◌, ◌≤◌, Bool, true, false, not, ◌&&◌, List, length, ap, ◌∙◌, arith, inl, inr}
+use Rattle.std.specs.Prelude.{ℤ, pos, ◌+ℤ◌, ◌-ℤ◌, ◌*ℤ◌, ◌≤ℤ◌, slice_index, if◌then◌else◌}
 use Rattle.std.proofs.lemmas.Int.{ints}
 use Rattle.std.proofs.lemmas.Bool.{cases_lt}
-use Rattle.std.proofs.Math.IntN.{zero-*ℤ, *ℤ-zero}
-use Rattle.match_rules.specs.Sums.{sum_below, count_below, when}
+use Rattle.std.proofs.Math.IntN.{*ℤ-zero}
+use Rattle.match_rules.specs.Sums.{sum_below, when}
 use Rattle.bounded_network.specs.Network.{NetworkValue, IsNetwork, IsCirculation, AreOptimal, IsCheapest, AreViolated, entering, leaving, arc_at, flow_cost, reduced_cost, potential_at, is_marked, floors_into, rooms_out_of}
 use Rattle.bounded_network.proofs.Scaled.{scale-+ℤ, scale--ℤ, scale_more, scale_less}
 use Rattle.bounded_network.proofs.Sums.{sum_below-equal, sum_below-le, sum_below-zero, sum_below-+ℤ, sum_below--ℤ, sum_below-pos, sum_at_ends}

@@ -74,3 +74,6 @@ impl Network {
         self.arcs.as_slice()
     }
 }
+
+#[cfg(test)]
+mod tests;

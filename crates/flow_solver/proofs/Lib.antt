@@ -1,4 +1,13 @@
+pub mod Bounds
+pub mod Chains
+pub mod Endings
+pub mod Falling
 pub mod Members
+pub mod Relaxing
+pub mod Runs
+pub mod Searches
+pub mod Settling
 pub mod Shifts
 pub mod Starts
 pub mod States
+pub mod Ways

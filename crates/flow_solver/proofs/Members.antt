@@ -1,9 +1,9 @@
 -- Who waits in a queue, as it changes.
-use Rattle.std.proofs.Common.{◌≡◌, ℕ, zero, suc, ◌+◌, ◌<◌, ◌⊎◌, List, [], ◌∷◌, ◌++◌, length, refl, sym, ap, inl, inr, arith}
+use Rattle.std.proofs.Common.{◌≡◌, ℕ, zero, suc, ◌⊎◌, List, [], ◌∷◌, refl, sym, ap, inl, inr, arith}
 use Rattle.std.specs.List.{Contains}
 use Rattle.std.specs.List.Sorted.{IsPermutation}
-use Rattle.std.proofs.lemmas.List.Elements.{Contains-append_right, Contains-append_left, Contains-append_cases, Contains-get_or}
-use Rattle.std.proofs.lemmas.List.Sorted.{Contains-permutation, IsPermutation-sym}
+use Rattle.std.proofs.lemmas.List.Elements.{Contains-append_right, Contains-append_cases}
+use Rattle.std.proofs.lemmas.List.Sorted.{Contains-permutation}
 use Rattle.std.specs.declared.cmp.Reverse.{Reverse}
 use Rattle.flow_solver.specs.Queue.{Waits}
 
@@ -29,6 +29,6 @@ Waits-cases old new x d v moved waits =
     let y : Reverse (ℕ × ℕ) = record { 0 = (d, v) } in
     let here : Contains (x ∷ old) y = Contains-permutation new (x ∷ old) y moved waits in
     elim (Contains-append_cases (x ∷ []) old y here) [
-      inl first ↦ let e : x ≡ y = one_holds x y first in inr (ap (λ (z : Reverse (ℕ × ℕ)). z.0.0) (sym e), ap (λ (z : Reverse (ℕ × ℕ)). z.0.1) (sym e))
-    | inr rest ↦ inl rest
+      | inl first ↦ let e : x ≡ y = one_holds x y first in inr (ap (λ (z : Reverse (ℕ × ℕ)). z.0.0) (sym e), ap (λ (z : Reverse (ℕ × ℕ)). z.0.1) (sym e))
+      | inr rest ↦ inl rest
     ]

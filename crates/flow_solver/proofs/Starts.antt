@@ -1,6 +1,6 @@
 -- The first flow and its excesses.
-use Rattle.std.proofs.Common.{◌≡◌, ◌≢◌, ℕ, zero, suc, ◌+◌, ◌-◌, ◌*◌, ◌^◌, ◌<◌, ◌≤◌, ◌⊎◌, Bool, true, false, List, [], ◌∷◌, ◌++◌, length, get_or, refl, sym, ap, ◌∙◌, arith, inl, inr, add-one}
-use Rattle.std.specs.Prelude.{ℤ, pos, ◌+ℤ◌, ◌-ℤ◌, ◌≤ℤ◌, ◌==◌, slice_index}
+use Rattle.std.proofs.Common.{◌≡◌, ℕ, ◌+◌, ◌*◌, ◌^◌, ◌<◌, ◌≤◌, List, [], ◌∷◌, ◌++◌, length, ◌∙◌, arith, inl, inr, add-one}
+use Rattle.std.specs.Prelude.{ℤ, pos, ◌-ℤ◌, ◌==◌, slice_index}
 use Rattle.std.proofs.lemmas.Int.{ints}
 use Rattle.std.proofs.lemmas.Bool.{cases_eq, cases_lt}
 use Rattle.std.proofs.lemmas.List.{get_or_past, get_or_push, get_or_append_left}
@@ -18,7 +18,7 @@ pub record AreExcessesTo (net : NetworkValue) (flow : List ℕ) (i : ℕ) (exces
 -- they are small
 pub AreExcessesTo-within : (net : NetworkValue) (flow : List ℕ) (i : ℕ) (excess : List ℤ) → IsNetwork net → i ≤ length net.arcs → ((a : ℕ) → a < length net.arcs → slice_index flow a ≤ 2 ^ 50) → AreExcessesTo net flow i excess → (v : ℕ) → IsWithin (2 ^ 100) (excess_at excess v)
 AreExcessesTo-within net flow i excess good i_in most sums v = elim (cases_lt v net.nodes) [
-    inl below ↦
+  | inl below ↦
       let into : count_below i (λ a. when ((arc_at net a).head == v) (slice_index flow a)) ≤ i * 2 ^ 50 = count_below-at_most i (λ a. when ((arc_at net a).head == v) (slice_index flow a)) (2 ^ 50) (λ a b. omega (arith, most a (omega arith), when_at_most ((arc_at net a).head == v) (slice_index flow a))) in
       let out : count_below i (λ a. when ((arc_at net a).tail == v) (slice_index flow a)) ≤ i * 2 ^ 50 = count_below-at_most i (λ a. when ((arc_at net a).tail == v) (slice_index flow a)) (2 ^ 50) (λ a b. omega (arith, most a (omega arith), when_at_most ((arc_at net a).tail == v) (slice_index flow a))) in
       let few : i ≤ 503000 = omega (arith, good.few_arcs) in
@@ -26,19 +26,19 @@ AreExcessesTo-within net flow i excess good i_in most sums v = elim (cases_lt v 
   | inr above ↦
       let past : excess_at excess v ≡ pos 0 = get_or_past excess v (pos 0) (omega (arith, sums.long)) in
       rw past record { low = omega (arith, ints); high = omega (arith, ints) }
-  ]
+]
 
 -- one arc more
 pub AreExcessesTo-more : (net : NetworkValue) (flow : List ℕ) (i : ℕ) (excess excess' : List ℤ) → AreExcessesTo net flow i excess → length excess' ≡ length excess → IsShifted excess excess' (arc_at net i).tail (arc_at net i).head (slice_index flow i) → AreExcessesTo net flow (i + 1) excess'
 AreExcessesTo-more net flow i excess excess' sums long shifted = record {
-    long = long ∙ sums.long;
-    each = λ v b. rw add-one (omega (arith, ints, sums.each v b, shifted v));
-  }
+  long = long ∙ sums.long;
+  each = λ v b. rw add-one (omega (arith, ints, sums.each v b, shifted v));
+}
 
 -- one amount more that suits its arc
 pub Suits-more : (net : NetworkValue) (potentials : List ℤ) (i : ℕ) (flow : List ℕ) (x : ℕ) → length flow ≡ i → ((a : ℕ) → a < i → Suits (arc_at net a) (reduced_cost net potentials a) (slice_index flow a))
     → Suits (arc_at net i) (reduced_cost net potentials i) x → (a : ℕ) → a < i + 1 → Suits (arc_at net a) (reduced_cost net potentials a) (slice_index (flow ++ x ∷ []) a)
 Suits-more net potentials i flow x long before here a b = elim (cases_eq a i) [
-    inl e ↦ rw (e, get_or_push flow x 0 i long) here
+  | inl e ↦ rw (e, get_or_push flow x 0 i long) here
   | inr ne ↦ rw (get_or_append_left flow (x ∷ []) 0 a (omega arith)) (before a (omega arith))
-  ]
+]

@@ -1,3 +1,7 @@
+pub mod Links
 pub mod Queue
+pub mod Search
+pub mod Solution
 pub mod State
 pub mod Step
+pub mod Way

@@ -1,5 +1,5 @@
 -- The state of the solver: an amount for each arc, the excess of each node, and potentials.
-use Rattle.std.specs.Prelude.{ℕ, ◌≡◌, ◌+◌, ◌-◌, ◌*◌, ◌<◌, ◌≤◌, ◌==◌, Bool, List, length, slice_index, slice_index_or, ℤ, pos, ◌+ℤ◌, ◌-ℤ◌, ◌≤ℤ◌, ◌<ℤ◌}
+use Rattle.std.specs.Prelude.{ℕ, ◌≡◌, ◌-◌, ◌*◌, ◌<◌, ◌≤◌, ◌==◌, List, length, slice_index, slice_index_or, ℤ, pos, ◌+ℤ◌, ◌-ℤ◌, ◌≤ℤ◌, ◌<ℤ◌}
 use Rattle.match_rules.specs.Sums.{when}
 use Rattle.bounded_network.specs.Network.{NetworkValue, AreOptimal, entering, leaving, arc_at, potential_at, reduced_cost}
 use Rattle.bounded_network.specs.declared.network.Arc.{Arc}

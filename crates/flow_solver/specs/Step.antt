@@ -1,5 +1,5 @@
 -- A step over an arc: forward from its tail to its head, or back from its head to its tail.
-use Rattle.std.specs.Prelude.{ℕ, ◌+◌, ◌-◌, Bool, if◌then◌else◌, ℤ, pos, neg_ℤ, ◌+ℤ◌, ◌-ℤ◌, List}
+use Rattle.std.specs.Prelude.{ℕ, ◌+◌, ◌-◌, Bool, if◌then◌else◌, ℤ, neg_ℤ, ◌+ℤ◌, ◌-ℤ◌, List}
 use Rattle.bounded_network.specs.declared.network.Arc.{Arc}
 use Rattle.bounded_network.specs.Network.{potential_at}
 

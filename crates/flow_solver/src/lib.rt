@@ -1,7 +1,24 @@
 // A circulation of least cost, with the potentials that prove it, or marks that prove that there is none.
+//
+// Given a network of arcs a with floors l(a), rooms u(a) and costs c(a) a unit, find amounts x(a) with
+// l(a) <= x(a) <= u(a), as much entering each node as leaving it, and the sum of c(a) * x(a) least. Potentials p prove that
+// it is least: c(a) + p(tail) - p(head) >= 0 where x(a) < u(a), and <= 0 where x(a) > l(a). Where there are no such amounts,
+// marks on nodes show it: the floors of the arcs into the marked nodes sum to more than the rooms of the arcs out of them.
+// The limits are those of `bounded_network::Network`; a potential is of magnitude at most the greatest cost times the nodes.
+//
+// Successive shortest paths (Jewell 1958; Iri 1960; Busacker and Gowen 1960) with potentials (Edmonds and Karp 1972),
+// from amounts that are optimal at the potentials where it starts and don't balance yet. Each path is found by Dijkstra's
+// search. What is proved says nothing of the number of steps.
 #![tactic(auto)]
 
+mod guess;
+mod links;
 mod queue;
+mod search;
+mod solver;
 mod start;
 mod state;
 mod step;
+mod way;
+
+pub use solver::{Solution, solve};

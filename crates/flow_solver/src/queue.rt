@@ -17,7 +17,9 @@ pub struct Queue {
 pub fn empty(alloc: Global) -> Queue
     ensures none { (d v : ℕ) → Waits (heap_items result.waiting) d v → ⊥ }
 {
-    Queue { waiting: BinaryHeap::new(alloc) }
+    Queue {
+        waiting: BinaryHeap::new(alloc),
+    }
 }
 
 pub fn push(queue: &mut Queue, distance: u64, node: u32) -> Result<(), AllocError>
@@ -33,7 +35,7 @@ pub fn pop(queue: &mut Queue) -> Option<(u64, u32)>
     ensures shorter { IfSome result (λ x. heap_len queue.new.waiting + 1 ≡ heap_len queue.old.waiting) }
     ensures waited { IfSome result (λ x. Waits (heap_items queue.old.waiting) x.0 x.1) }
     ensures kept { IfSome result (λ x. (d v : ℕ) → Waits (heap_items queue.old.waiting) d v → Waits (heap_items queue.new.waiting) d v ⊎ ((d ≡ x.0) × (v ≡ x.1))) }
-    ensures only { IfSome result (λ x. (d v : ℕ) → Waits (heap_items queue.new.waiting) d v → Waits (heap_items queue.old.waiting) d v) }
+    ensures only { (d v : ℕ) → Waits (heap_items queue.new.waiting) d v → Waits (heap_items queue.old.waiting) d v }
     ensures nearest { IfSome result (λ x. (d v : ℕ) → Waits (heap_items queue.old.waiting) d v → x.0 ≤ d) }
     ensures none { IfNone result ((d v : ℕ) → Waits (heap_items queue.old.waiting) d v → ⊥) }
 {

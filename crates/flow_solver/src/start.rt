@@ -3,11 +3,10 @@ ghost use Rattle.std.specs.Prelude.{◌≡◌, ◌+◌, ◌*◌, ◌^◌, ◌<�
 ghost use Rattle.bounded_network.specs.Network.{IsArc, IsNetwork, arc_at, potential_at, reduced_cost};
 ghost use Rattle.flow_solver.specs.State.{IsWithin, IsState, Suits, AllSuit, AreExcesses};
 
-use bounded_network::{Arc, Network};
-use std::alloc::{AllocError, Global};
-
 use crate::state::{State, shift};
 use crate::step::{arc_count, arc_of};
+use bounded_network::{Arc, Network};
+use std::alloc::{AllocError, Global};
 
 // The room where the reduced cost is negative, and else the floor.
 fn first_amount(arc: Arc, tail: i64, head: i64) -> u64
@@ -18,7 +17,11 @@ fn first_amount(arc: Arc, tail: i64, head: i64) -> u64
     requires head_small { IsWithin 8000000000 head }
     ensures { Suits arc ((arc.cost +ℤ tail) -ℤ head) result }
 {
-    if arc.cost + tail - head < 0 { arc.room } else { arc.floor }
+    if arc.cost + tail - head < 0 {
+        arc.room
+    } else {
+        arc.floor
+    }
 }
 
 // The amount that the arc at the place starts with.
@@ -29,7 +32,11 @@ fn amount_from(net: &Network, potentials: &[i64], place: u32) -> u64
     ensures { Suits (arc_at net.now place) (reduced_cost net.now potentials.now place) result }
 {
     let arc = arc_of(net, place);
-    first_amount(arc, potentials[arc.tail as usize], potentials[arc.head as usize])
+    first_amount(
+        arc,
+        potentials[arc.tail as usize],
+        potentials[arc.head as usize],
+    )
 }
 
 // Amounts at which no arc has a negative reduced cost that it could follow.

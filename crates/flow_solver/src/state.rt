@@ -4,9 +4,8 @@ ghost use Rattle.bounded_network.specs.Network.{NetworkValue, IsNetwork, arc_at,
 ghost use Rattle.flow_solver.specs.State.{IsWithin, excess_at, IsState, IsShifted, AreFallen};
 ghost use Rattle.flow_solver.specs.Step.{start_of, end_of, left_on, step_reduced, carried};
 
-use bounded_network::Network;
-
 use crate::step::{Step, arc_of, carry_on, end, start};
+use bounded_network::Network;
 
 /// An amount for each arc, the excess of each node, what enters it less what leaves it, and a potential for each node.
 #[derive(Drop)]
@@ -15,7 +14,6 @@ pub struct State {
     pub excess: Vec<i128>,
     pub potentials: Vec<i64>,
 }
-
 
 // What is left of an excess when the amount is gone.
 fn less(excess: i128, amount: u64) -> i128
@@ -59,7 +57,12 @@ pub fn carry(net: &Network, state: &mut State, step: Step, amount: u64)
     let arc = arc_of(net, step.arc);
     let had = state.flow[step.arc as usize];
     state.flow[step.arc as usize] = carry_on(arc, had, step.forward, amount);
-    shift(&mut state.excess, start(arc, step.forward), end(arc, step.forward), amount);
+    shift(
+        &mut state.excess,
+        start(arc, step.forward),
+        end(arc, step.forward),
+        amount,
+    );
 }
 
 // A potential lowered by the amount.

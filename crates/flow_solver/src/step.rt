@@ -46,7 +46,11 @@ pub fn left(arc: Arc, amount: u64, forward: bool) -> u64
     requires most { amount ≤ arc.room }
     ensures { result ≡ left_on arc amount forward }
 {
-    if forward { arc.room - amount } else { amount - arc.floor }
+    if forward {
+        arc.room - amount
+    } else {
+        amount - arc.floor
+    }
 }
 
 pub fn cost(arc: Arc, forward: bool) -> i64

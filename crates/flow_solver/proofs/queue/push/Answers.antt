@@ -1,4 +1,3 @@
-use Rattle.std.proofs.Common.{rules}
 use Rattle.std.proofs.lemmas.List.Sorted.{IsPermutation-sym}
 use Rattle.flow_solver.proofs.Members.{Waits-added, Waits-kept, Waits-cases}
 use Rattle.flow_solver.proofs.queue.push.Goals as goal

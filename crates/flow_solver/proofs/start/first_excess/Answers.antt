@@ -1,6 +1,4 @@
-use Rattle.std.proofs.Common.{◌≡◌, arith, List, take, drop, length, ◌++◌, ◌<◌}
-use Rattle.std.specs.Prelude.{ℤ, slice_index}
-use Rattle.std.proofs.lemmas.List.{get_or_read}
+use Rattle.std.proofs.Common.{◌≡◌, arith, take, drop, length, ◌++◌}
 use Rattle.std.proofs.lemmas.Grind.{common_steps}
 use Rattle.flow_solver.proofs.Starts.{AreExcessesTo-within, AreExcessesTo-more}
 use Rattle.flow_solver.proofs.start.first_excess.Goals as goal

@@ -1,8 +1,7 @@
-use Rattle.std.proofs.Common.{◌≡◌, rules, arith, List, take, drop, length, ◌++◌, ◌<◌}
-use Rattle.std.specs.Prelude.{ℤ, slice_set, slice_index}
+use Rattle.std.proofs.Common.{◌≡◌, arith, take, drop, length, ◌++◌, ◌<◌}
+use Rattle.std.specs.Prelude.{slice_index}
 use Rattle.std.proofs.lemmas.List.{get_or_read}
 use Rattle.std.proofs.lemmas.Grind.{common_steps}
-use Rattle.flow_solver.specs.State.{IsState}
 use Rattle.flow_solver.proofs.States.{IsState-carry, excess_within}
 use Rattle.flow_solver.proofs.state.carry.Goals as goal
 

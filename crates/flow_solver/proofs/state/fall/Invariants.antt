@@ -1,4 +1,4 @@
-use Rattle.std.proofs.Common.{◌≡◌, ℕ, ◌+◌, ◌-◌, ◌<◌, ◌≤◌, length}
+use Rattle.std.proofs.Common.{◌≡◌, ℕ, ◌-◌, ◌<◌, ◌≤◌, length}
 use Rattle.std.specs.Prelude.{pos, ◌-ℤ◌, slice_index}
 use Rattle.bounded_network.specs.Network.{potential_at}
 use Rattle.flow_solver.proofs.state.fall.Given as goal

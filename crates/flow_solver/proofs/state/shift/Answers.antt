@@ -1,4 +1,4 @@
-use Rattle.std.proofs.Common.{rules, arith}
+use Rattle.std.proofs.Common.{arith}
 use Rattle.std.proofs.lemmas.Int.{ints}
 use Rattle.flow_solver.proofs.Shifts.{IsShifted-from_sets}
 use Rattle.flow_solver.proofs.state.shift.Goals as goal

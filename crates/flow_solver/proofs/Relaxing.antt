@@ -1,0 +1,112 @@
+-- The search as a step is relaxed.
+use Rattle.std.proofs.Common.{◌≡◌, ◌≢◌, ℕ, ◌+◌, ◌-◌, ◌<◌, ◌≤◌, ◌⊎◌, Bool, true, false, List, length, get_or-set_same, get_or-set_other, sym, ap, subst, ◌∙◌, arith, inl, inr}
+use Rattle.std.specs.Prelude.{pos, ◌+ℤ◌, slice_index, slice_set}
+use Rattle.std.specs.declared.cmp.Reverse.{Reverse}
+use Rattle.std.proofs.lemmas.Int.{ints}
+use Rattle.std.proofs.lemmas.Bool.{cases_Bool, cases_order}
+use Rattle.std.proofs.lemmas.List.{length-set}
+use Rattle.bounded_network.specs.Network.{NetworkValue, IsNetwork, arc_at}
+use Rattle.flow_solver.specs.declared.state.State.{State}
+use Rattle.flow_solver.specs.declared.step.Step.{Step}
+use Rattle.flow_solver.specs.declared.search.Reach.{Reach}
+use Rattle.flow_solver.specs.declared.search.Search.{Search}
+use Rattle.flow_solver.specs.Queue.{Waits}
+use Rattle.flow_solver.specs.Step.{start_of, end_of, left_on, step_reduced}
+use Rattle.flow_solver.specs.Links.{IsBound}
+use Rattle.flow_solver.specs.Search.{unreached, distance_at, reach_at, no_reach, is_settled, IsReach, IsSearchOf, IsRelaxed, IsRelaxedFrom, SameTree}
+use Rattle.flow_solver.proofs.Searches.{IsStateOf, step_not_negative, IsLowered, IsLowered-set, IsSearchOf-lower, settled_apart}
+use Rattle.flow_solver.proofs.Bounds.{end_in, over_small}
+
+module _ (net : NetworkValue) (state : State) (source node : ℕ) (tree reaches : List Reach) (distances : List ℕ) (settled : List Bool) (waiting : List (Reverse (ℕ × ℕ)))
+    (good : IsNetwork net) (kept : IsStateOf net state) (search : IsSearchOf net state source node tree reaches distances settled waiting)
+    (step : Step) (a_in : step.arc < length net.arcs) (starts : start_of (arc_at net step.arc) step.forward ≡ node)
+    (room : 0 < left_on (arc_at net step.arc) (slice_index state.flow.items step.arc) step.forward)
+    (to d : ℕ) (to_is : to ≡ end_of (arc_at net step.arc) step.forward)
+    (d_is : pos d ≡ pos (distance_at distances node) +ℤ step_reduced (arc_at net step.arc) step.forward state.potentials.items)
+    (lower : d < distance_at distances to) where
+  pub to_in : to < net.nodes
+  to_in = rw to_is (end_in net.nodes (arc_at net step.arc) step.forward (good.each step.arc a_in))
+
+  pub d_far : distance_at distances node ≤ d
+  d_far = let h = step_not_negative net state kept step.arc step.forward a_in room in omega (arith, ints, h, d_is)
+
+  pub to_unsettled : is_settled settled to ≡ false
+  to_unsettled = elim (cases_Bool (is_settled settled to)) [
+    | inl s ↦ absurd (omega (arith, search.nearer to s, d_far, lower))
+    | inr u ↦ u
+  ]
+
+  pub to_lowered : IsLowered distances (slice_set distances to d) to d
+  to_lowered = IsLowered-set distances to d (omega (arith, search.distances_long, to_in)) lower
+
+  pub node_apart : node ≢ to
+  node_apart = settled_apart settled node to search.node_settled to_unsettled
+
+  pub to_reached : (reach : Reach) → reach.node ≡ to → reach.from ≡ length tree - 1 → reach.step ≡ step → 0 < reach.width
+      → reach.width ≤ left_on (arc_at net step.arc) (slice_index state.flow.items step.arc) step.forward → reach.width ≤ (reach_at tree (length tree - 1)).width
+      → IsReach net state tree (slice_set distances to d) (length tree) reach to
+  to_reached reach node_is from_is step_is some left narrow =
+      let last : (reach_at tree reach.from).node ≡ node = ap (λ i. (reach_at tree i).node) from_is ∙ search.node_last in
+      let dist_to : distance_at (slice_set distances to d) to ≡ d = to_lowered.at in
+      let dist_from : distance_at (slice_set distances to d) (reach_at tree reach.from).node ≡ distance_at distances node =
+      ap (distance_at (slice_set distances to d)) last ∙ to_lowered.others node node_apart in
+      record {
+        node = node_is;
+        from = omega (arith, from_is, search.is_tree.some);
+        arc = subst (λ (s : Step). s.arc < length net.arcs) (sym step_is) a_in;
+        starts = subst (λ (s : Step). start_of (arc_at net s.arc) s.forward ≡ (reach_at tree reach.from).node) (sym step_is) (starts ∙ sym last);
+        ends = subst (λ (s : Step). end_of (arc_at net s.arc) s.forward ≡ to) (sym step_is) (sym to_is);
+        distance = subst (λ (s : Step). pos (distance_at (slice_set distances to d) to) ≡ pos (distance_at (slice_set distances to d) (reach_at tree reach.from).node) +ℤ step_reduced (arc_at net s.arc) s.forward state.potentials.items) (sym step_is)
+            (rw (dist_to, dist_from) d_is);
+        some = some;
+        left = subst (λ (s : Step). reach.width ≤ left_on (arc_at net s.arc) (slice_index state.flow.items s.arc) s.forward) (sym step_is) left;
+        narrow = subst (λ (i : ℕ). reach.width ≤ (reach_at tree i).width) (sym from_is) narrow;
+      }
+
+  pub IsSearchOf-relax : (reach : Reach) → reach.node ≡ to → reach.from ≡ length tree - 1 → reach.step ≡ step → 0 < reach.width
+      → reach.width ≤ left_on (arc_at net step.arc) (slice_index state.flow.items step.arc) step.forward → reach.width ≤ (reach_at tree (length tree - 1)).width
+      → (waiting' : List (Reverse (ℕ × ℕ))) → Waits waiting' d to → ((e v : ℕ) → Waits waiting e v → Waits waiting' e v) → ((e v : ℕ) → Waits waiting' e v → Waits waiting e v ⊎ ((e ≡ d) × (v ≡ to)))
+      → IsSearchOf net state source node tree (slice_set reaches to reach) (slice_set distances to d) settled waiting'
+  IsSearchOf-relax reach node_is from_is step_is some left narrow waiting' added stays only =
+      let small = over_small net state source node tree reaches distances settled waiting good kept search step.arc step.forward a_in starts in
+      let to_reached_at : d < unreached = omega (arith, ints, small, d_is) in
+      let there : to < length reaches = omega (arith, search.reaches_long, to_in) in
+      let at : reach_at (slice_set reaches to reach) to ≡ reach = get_or-set_same reaches to reach no_reach there in
+      IsSearchOf-lower net state source node tree reaches distances settled waiting search to d (slice_set distances to d) (slice_set reaches to reach) waiting'
+      to_in to_reached_at to_unsettled d_far to_lowered (length-set reaches to reach)
+      (subst (λ (r : Reach). IsReach net state tree (slice_set distances to d) (length tree) r to) (sym at) (to_reached reach node_is from_is step_is some left narrow))
+      (λ v ne. get_or-set_other reaches to v reach no_reach ne)
+      added stays only
+
+-- a relaxed step stays relaxed as distances fall, but not that of its start
+pub IsRelaxed-lower : (net : NetworkValue) (state : State) (old new : List ℕ) (v a : ℕ) (forward : Bool) → ((u : ℕ) → distance_at new u ≤ distance_at old u) → distance_at new v ≡ distance_at old v
+    → IsRelaxed net state old v a forward → IsRelaxed net state new v a forward
+IsRelaxed-lower net state old new v a forward less same relaxed starts room =
+    let h = relaxed starts room in
+    let l = less (end_of (arc_at net a) forward) in
+    omega (arith, ints, h, l, same)
+
+-- a step starts at its tail or its head
+step_at : (net : NetworkValue) (a v : ℕ) (forward : Bool) → start_of (arc_at net a) forward ≡ v → (arc_at net a).tail ≢ v → (arc_at net a).head ≢ v → ⊥
+step_at net a v true starts not_tail not_head = not_tail starts
+step_at net a v false starts not_tail not_head = not_head starts
+
+-- from a bound to the bound before it
+pub IsRelaxedFrom-more : (net : NetworkValue) (state : State) (old new : List ℕ) (v place bound : ℕ) → ((u : ℕ) → distance_at new u ≤ distance_at old u) → distance_at new v ≡ distance_at old v
+    → ((forward : Bool) → IsRelaxed net state new v place forward) → IsBound net v place bound → IsRelaxedFrom net state old v (place + 1) → IsRelaxedFrom net state new v bound
+IsRelaxedFrom-more net state old new v place bound less same here between relaxed a forward a_in from = elim (cases_order a place) [
+  | inl e ↦ rw e (here forward)
+  | inr other ↦ elim other [
+    | inl below ↦ λ starts room. let none = between.none_between a from below in absurd (step_at net a v forward starts none.0 none.1)
+    | inr above ↦ IsRelaxed-lower net state old new v a forward less same (relaxed a forward a_in (omega arith))
+  ]
+]
+
+-- twice the same tree
+pub SameTree-then : (a b c : Search) → SameTree a b → SameTree b c → SameTree a c
+SameTree-then a b c one two = record {
+  source = two.source ∙ one.source;
+  node = two.node ∙ one.node;
+  tree = two.tree ∙ one.tree;
+  settled = two.settled ∙ one.settled;
+}

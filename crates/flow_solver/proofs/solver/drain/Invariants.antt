@@ -1,0 +1,16 @@
+use Rattle.std.proofs.Common.{ℕ}
+use Rattle.std.specs.Prelude.{pos, ◌≤ℤ◌}
+use Rattle.flow_solver.specs.State.{IsState, AreCalm, excess_at}
+use Rattle.flow_solver.proofs.Endings.{worth}
+use Rattle.flow_solver.proofs.solver.drain.Given as goal
+
+-- the state is kept, and who has too little or enough still has
+abbrev pub invariant-draining : goal.invariant-draining
+invariant-draining l = record {
+  kept : IsState l.net l.state.flow.items l.state.excess.items l.state.potentials.items;
+  calm : AreCalm l.net l.state.excess.items l.state.potentials.items;
+  others : (v : ℕ) → excess_at l.initial.state.excess.items v ≤ℤ pos 0 → excess_at l.state.excess.items v ≤ℤ pos 0;
+}
+
+abbrev pub decreases-draining : goal.decreases-draining
+decreases-draining l = worth (excess_at l.state.excess.items l.source)

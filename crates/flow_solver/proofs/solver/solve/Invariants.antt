@@ -1,0 +1,12 @@
+use Rattle.std.proofs.Common.{ℕ, ◌<◌}
+use Rattle.std.specs.Prelude.{pos, ◌≤ℤ◌}
+use Rattle.flow_solver.specs.State.{IsState, AreCalm, excess_at}
+use Rattle.flow_solver.proofs.solver.solve.Given as goal
+
+-- the state is kept, and no node so far has too much
+abbrev pub invariant-loop-source : goal.invariant-loop-source
+invariant-loop-source l = record {
+  kept : IsState l.net l.state.flow.items l.state.excess.items l.state.potentials.items;
+  calm : AreCalm l.net l.state.excess.items l.state.potentials.items;
+  poor : (v : ℕ) → v < l.source → excess_at l.state.excess.items v ≤ℤ pos 0;
+}

@@ -1,0 +1,94 @@
+ghost use Rattle.std.specs.Prelude.{◌≡◌, ◌*◌, ◌<◌, ◌≤◌, length, ℕ, ℤ, List, Bool, pos, ◌≤ℤ◌, IfOk, MatchOption};
+ghost use Rattle.bounded_network.specs.Network.{IsNetwork, IsCirculation, AreOptimal, IsCheapest, AreViolated, potential_at};
+ghost use Rattle.flow_solver.specs.Links.{AreLinks};
+ghost use Rattle.flow_solver.specs.State.{IsWithin, IsState, AreCalm, AreBounded, excess_at};
+ghost use Rattle.flow_solver.specs.Solution.{IfSolved, IfUnsat};
+
+use crate::guess::first_potentials;
+use crate::links::{Links, links_of};
+use crate::search::{begin, run};
+use crate::start::start_at;
+use crate::state::State;
+use crate::way::augment;
+use bounded_network::Network;
+use std::alloc::{AllocError, Global};
+
+/// What the solver answers: nothing else is ever answered, whatever the network.
+#[derive(Drop)]
+pub enum Solution {
+    /// A circulation of least cost: an amount for each arc, and a potential for each node that proves it.
+    Solved {
+        flow: Vec<u64>,
+        potentials: Vec<i64>,
+    },
+    /// Marks of nodes into which more has to flow than can leave them, so that there is no circulation.
+    Unsat {
+        marks: Vec<bool>,
+    },
+}
+
+// Carries away what the source has too much, or gives the marks of a set that can't get rid of it.
+fn drain(
+    alloc: Global,
+    net: &Network,
+    links: &Links,
+    state: &mut State,
+    source: u32,
+) -> Result<Option<Vec<bool>>, AllocError>
+    requires kept { IsState net.now state.old.flow.items state.old.excess.items state.old.potentials.items }
+    requires calm { AreCalm net.now state.old.excess.items state.old.potentials.items }
+    requires links { AreLinks net.now links.now }
+    requires source_in { source < net.now.nodes }
+    ensures kept { IsState net.now state.new.flow.items state.new.excess.items state.new.potentials.items }
+    ensures calm { AreCalm net.now state.new.excess.items state.new.potentials.items }
+    ensures others { (v : ℕ) → excess_at state.old.excess.items v ≤ℤ pos 0 → excess_at state.new.excess.items v ≤ℤ pos 0 }
+    ensures ends { IfOk result (λ marks. MatchOption marks (excess_at state.new.excess.items source ≤ℤ pos 0) (λ m. AreViolated net.now m.items)) }
+    ensures long { IfOk result (λ marks. MatchOption marks (Unit {0}) (λ m. length m.items ≡ net.now.nodes)) }
+{
+    let _nodes = net.nodes();
+    'draining: while state.excess[source as usize] > 0 {
+        let mut search = begin(alloc, net, state, source)?;
+        let found = run(net, links, state, &mut search)?;
+        if !found {
+            return Ok(Some(search.settled));
+        }
+        augment(net, state, &search);
+    }
+    Ok(None)
+}
+
+/// A circulation of least cost with the potentials that prove it, or marks that prove that there is none.
+///
+/// Successive shortest paths (Jewell, Iri, Busacker and Gowen) with potentials (Edmonds and Karp): it begins with amounts
+/// that are optimal at its first potentials but don't balance, and carries what is too much at a node to the nearest node
+/// that lacks something, by reduced costs, until nothing is left or nothing is reached. No number of steps is claimed.
+pub fn solve(alloc: Global, net: &Network) -> Result<Solution, AllocError>
+    ensures circulates { IfOk result (λ solution. IfSolved solution (λ flow potentials. IsCirculation net.now flow)) }
+    ensures optimal { IfOk result (λ solution. IfSolved solution (λ flow potentials. AreOptimal net.now flow potentials)) }
+    ensures cheapest { IfOk result (λ solution. IfSolved solution (λ flow potentials. IsCheapest net.now flow)) }
+    ensures potentials { IfOk result (λ solution. IfSolved solution (λ flow potentials. length potentials ≡ net.now.nodes)) }
+    ensures bounded { IfOk result (λ solution. IfSolved solution (λ flow potentials. AreBounded net.now potentials)) }
+    ensures uncut { IfOk result (λ solution. IfSolved solution (λ flow potentials. (marks : List Bool) → AreViolated net.now marks → ⊥)) }
+
+    ensures violated { IfOk result (λ solution. IfUnsat solution (λ marks. AreViolated net.now marks)) }
+    ensures none { IfOk result (λ solution. IfUnsat solution (λ marks. (flow : List ℕ) → IsCirculation net.now flow → ⊥)) }
+    ensures marks { IfOk result (λ solution. IfUnsat solution (λ marks. length marks ≡ net.now.nodes)) }
+{
+    let links = links_of(alloc, net)?;
+    let _nodes = net.nodes();
+    let potentials = first_potentials(alloc, net)?;
+    let mut state = start_at(alloc, net, potentials)?;
+    for source in 0..net.nodes() {
+        let ended = drain(alloc, net, &links, &mut state, source)?;
+        if let Some(marks) = ended {
+            return Ok(Solution::Unsat { marks });
+        }
+    }
+    Ok(Solution::Solved {
+        flow: state.flow,
+        potentials: state.potentials,
+    })
+}
+
+#[cfg(test)]
+mod tests;

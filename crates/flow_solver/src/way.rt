@@ -1,0 +1,71 @@
+// Carrying an amount from a source to a node that lacks something.
+ghost use Rattle.std.specs.Prelude.{◌≡◌, ◌-◌, ◌*◌, ◌^◌, ◌<◌, ◌≤◌, length, ℕ, ℤ, pos, ◌+ℤ◌, ◌-ℤ◌, ◌≤ℤ◌, ◌<ℤ◌};
+ghost use Rattle.bounded_network.specs.Network.{IsNetwork};
+ghost use Rattle.flow_solver.specs.Search.{IsFound, reach_at, distance_at};
+ghost use Rattle.flow_solver.specs.State.{IsWithin, IsState, IsShifted, AreCalm, excess_at};
+ghost use Rattle.flow_solver.specs.Way.{IsWay};
+
+use crate::search::{Reach, Search, width_of};
+use crate::state::{State, carry, fall};
+use bounded_network::Network;
+
+// Carries the amount along the tree from its root to its last node.
+fn carry_along(net: &Network, state: &mut State, tree: &[Reach], amount: u64)
+    requires kept { IsState net.now state.old.flow.items state.old.excess.items state.old.potentials.items }
+    requires way { IsWay net.now state.old tree.now amount }
+    ensures kept { IsState net.now state.new.flow.items state.new.excess.items state.new.potentials.items }
+    ensures shifted { IsShifted state.old.excess.items state.new.excess.items (reach_at tree.now 0).node (reach_at tree.now (length tree.now - 1)).node amount }
+    ensures potentials { state.new.potentials.items ≡ state.old.potentials.items }
+    ensures wide { amount ≤ (reach_at tree.now 0).width }
+{
+    let mut place = tree.len() - 1;
+    while place > 0 {
+        let reach = tree[place];
+        carry(net, state, reach.step, amount);
+        place = reach.from as usize;
+    }
+}
+
+// Lowers the potentials of the settled nodes, so that the steps of the tree have reduced cost 0.
+fn fall_to(net: &Network, state: &mut State, search: &Search)
+    requires kept { IsState net.now state.old.flow.items state.old.excess.items state.old.potentials.items }
+    requires calm { AreCalm net.now state.old.excess.items state.old.potentials.items }
+    requires found { IsFound net.now state.old search.now }
+    ensures kept { IsState net.now state.new.flow.items state.new.excess.items state.new.potentials.items }
+    ensures calm { AreCalm net.now state.new.excess.items state.new.potentials.items }
+    ensures flow { state.new.flow.items ≡ state.old.flow.items }
+    ensures excess { state.new.excess.items ≡ state.old.excess.items }
+    ensures way { (amount : ℕ) → amount ≤ (reach_at search.now.tree.items (length search.now.tree.items - 1)).width → IsWay net.now state.new search.now.tree.items amount }
+{
+    let _nodes = net.nodes();
+    let depth = search.distances[search.node as usize];
+    fall(&mut state.potentials, &search.distances, depth);
+}
+
+// How much is lacking, as much of it as fits.
+fn lack_of(excess: i128) -> u64
+    requires lacks { excess <ℤ pos 0 }
+    requires small { IsWithin (2 ^ 100) excess }
+    ensures some { 0 < result }
+    ensures within { (excess +ℤ pos result) ≤ℤ pos 0 }
+{
+    width_of(-excess)
+}
+
+/// Carries as much as it can from the search's source to the node that it found.
+pub fn augment(net: &Network, state: &mut State, search: &Search)
+    requires kept { IsState net.now state.old.flow.items state.old.excess.items state.old.potentials.items }
+    requires calm { AreCalm net.now state.old.excess.items state.old.potentials.items }
+    requires found { IsFound net.now state.old search.now }
+    ensures kept { IsState net.now state.new.flow.items state.new.excess.items state.new.potentials.items }
+    ensures calm { AreCalm net.now state.new.excess.items state.new.potentials.items }
+    ensures falls { excess_at state.new.excess.items search.now.source <ℤ excess_at state.old.excess.items search.now.source }
+    ensures rich { pos 0 ≤ℤ excess_at state.new.excess.items search.now.source }
+    ensures others { (v : ℕ) → excess_at state.old.excess.items v ≤ℤ pos 0 → excess_at state.new.excess.items v ≤ℤ pos 0 }
+{
+    let _nodes = net.nodes();
+    fall_to(net, state, search);
+    let lack = lack_of(state.excess[search.node as usize]);
+    let amount = search.tree[search.tree.len() - 1].width.min(lack);
+    carry_along(net, state, &search.tree, amount);
+}
