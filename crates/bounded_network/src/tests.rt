@@ -100,7 +100,10 @@ fn house(alloc: Global) -> Result<Rules, Fail>
     reviewers.push(member(alloc, "r2", "u")?)?;
     let pairs = Vec::from_slice(
         alloc,
-        &[pair(0, 0, 900_000, 0, 10_000), pair(0, 1, 600_000, 0, 10_000)],
+        &[
+            pair(0, 0, 900_000, 0, 10_000),
+            pair(0, 1, 600_000, 0, 10_000),
+        ],
     )?;
     Ok(Rules::new(alloc, 1, papers, reviewers, pairs)?)
 }
