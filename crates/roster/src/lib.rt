@@ -1,0 +1,18 @@
+// The papers and reviewers of a venue: tables in the order of their ids.
+#![tactic(auto)]
+
+mod load;
+mod rows;
+mod table;
+#[cfg(test)]
+mod tests;
+
+pub use load::Load;
+pub use rows::{Institutions, PaperRow, ReviewerRow};
+pub use table::{RosterFault, Row, Table};
+
+/// The papers of a venue, at most 1,500, in the order of their ids' bytes.
+pub type Papers = Table<PaperRow>;
+
+/// The reviewers of a venue, at most 1,500, in the order of their ids' bytes.
+pub type Reviewers = Table<ReviewerRow>;

@@ -1,0 +1,4 @@
+pub mod Powers
+pub mod Scans
+pub mod Spellings
+pub mod Grammar

@@ -1,0 +1,5 @@
+pub mod Magnitude
+pub mod Spelling
+pub mod Reading
+pub mod Scanning
+pub mod Sources

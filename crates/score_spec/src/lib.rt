@@ -1,0 +1,12 @@
+// Values of affinity as text and as numbers, and the score of a pair as a weighted sum of its sources.
+#![tactic(auto)]
+
+mod magnitude;
+mod numbers;
+mod scan;
+mod spec;
+mod text;
+
+pub use numbers::{NumberFault, Value, read_value};
+pub use spec::{BidWord, Kind, SourceSpec, Sources, Spec, Words};
+pub use text::Text;
