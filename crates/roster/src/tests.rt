@@ -40,8 +40,10 @@ fn reviewers_keep_institution_and_load(rt: HostRuntime) -> Result<(), Fail> {
     let alloc = rt.alloc();
     assert_eq!(rt; Load::new(2, 1), None);
     assert_eq!(rt; Load::new(0, 1501), None);
-    let load = Load::new(0, 2);
-    assert!(rt; load.is_some());
+    let load = Load::new(1, 2);
+    let both = load.ok_or("no load")?;
+    assert_eq!(rt; both.least(), 1);
+    assert_eq!(rt; both.greatest(), 2);
     let mut reviewers = Reviewers::new(alloc);
     let row = ReviewerRow {
         id: ReviewerId::read(alloc, "r1")?,

@@ -1,12 +1,11 @@
 -- The computed answer is the one that the grammar gives, and the grammar gives no other.
-use Rattle.std.proofs.Common.{◌≡◌, ℕ, suc, ◌+◌, ◌-◌, ◌*◌, ◌<◌, ◌≤◌, ◌⊎◌, inl, inr, List, [], ◌∷◌, ◌++◌, length, take, drop, Option, Some, None, Result, Ok, Err, Bool, true, false, ℤ, refl, sym, ap, ◌∙◌, subst, arith, length-append, append-nil}
+use Rattle.std.proofs.Common.{◌≡◌, ℕ, suc, ◌+◌, ◌-◌, ◌*◌, ◌<◌, inl, inr, List, [], ◌∷◌, ◌++◌, length, take, Option, Some, None, Result, Ok, Err, Bool, true, false, ℤ, refl, sym, ap, ◌∙◌, subst, arith, length-append, append-nil}
 use Rattle.std.specs.Prelude.{nat_lt, nat_le, ◌&&◌, if◌then◌else◌, IfSome}
-use Rattle.std.proofs.lemmas.Bool.{lt-ltb, ltb-true, ltb-false, le-leb, lt-leb, cases_lt, cases_order, false≢true}
+use Rattle.std.proofs.lemmas.Bool.{lt-ltb, ltb-true, le-leb, lt-leb, cases_lt, cases_order, false≢true}
 use Rattle.std.proofs.Math.Seq.{take-append_seam, take-append-add, take-length}
 use Rattle.score_spec.specs.declared.numbers.NumberFault.{NumberFault}
 use Rattle.score_spec.specs.declared.numbers.NumberFault.TheVariants.{BadNumber, OutOfRange}
-use Rattle.score_spec.specs.Magnitude.{rounded}
-use Rattle.score_spec.specs.Spelling.{Exponent, Spelling, text_of, mantissa, IsExponent, IsSpelling, IsValueText, BeginsValueText, IsInRange, top, bottom, signed, rounded_value, IsBadPlace, MeetsGrammar}
+use Rattle.score_spec.specs.Spelling.{Exponent, Spelling, text_of, mantissa, IsExponent, IsSpelling, BeginsValueText, top, bottom, IsBadPlace, MeetsGrammar}
 use Rattle.score_spec.specs.Reading.{spell, unwritten, has_exponent_digits, is_complete, value_in_range, answer_to, read_as}
 use Rattle.score_spec.proofs.Spellings.{IsPart, IsPartExponent, Grows, Stops, stops_at, reads_through, reads, begins, no_further}
 

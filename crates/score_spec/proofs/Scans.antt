@@ -1,19 +1,16 @@
 -- The scanner keeps the numbers of the spelling that grows beside it, so it gives the same answer.
-use Rattle.std.proofs.Common.{◌≡◌, ℕ, ◌+◌, ◌*◌, ◌^◌, ◌<◌, ◌≤◌, List, [], ◌∷◌, ◌++◌, length, Option, Some, None, Result, Ok, Err, Bool, true, false, ℤ, refl, sym, ap, ◌∙◌, arith, length-append, append_assoc, append-nil}
-use Rattle.std.specs.Prelude.{if◌then◌else◌, ◌==◌, nat_lt, nat_le, is_none, ◌&&◌}
+use Rattle.std.proofs.Common.{◌≡◌, ℕ, ◌+◌, ◌*◌, List, [], ◌∷◌, ◌++◌, length, Option, Some, None, Result, Ok, Err, Bool, true, false, refl, sym, ap, ◌∙◌, arith, length-append, append_assoc, append-nil}
+use Rattle.std.specs.Prelude.{if◌then◌else◌, ◌==◌, nat_lt, ◌&&◌}
 use Rattle.std.specs.Option.{option_map}
 use Rattle.std.specs.Char.{is_digit, digit_value}
 use Rattle.std.specs.Str.Parse.{digits_value}
 use Rattle.std.proofs.lemmas.Int.Digits.{digits_value_push}
 use Rattle.score_spec.specs.declared.scan.Sign.{Sign}
-use Rattle.score_spec.specs.declared.scan.Power.{Power}
 use Rattle.score_spec.specs.declared.scan.Scan.{Scan}
-use Rattle.score_spec.specs.declared.numbers.NumberFault.{NumberFault}
-use Rattle.score_spec.specs.declared.numbers.NumberFault.TheVariants.{BadNumber, OutOfRange}
-use Rattle.score_spec.specs.Magnitude.{rounded, magnitude_of}
-use Rattle.score_spec.specs.Spelling.{Exponent, Spelling, mantissa, top, bottom, signed}
-use Rattle.score_spec.specs.Reading.{only_if, is_exponent_letter, sign_of, is_absent, with_digit, longer_exponent, longer_mantissa, longer_by, longer, spell, spell_on, unwritten, is_complete, value_in_range, answer_to, read_as}
-use Rattle.score_spec.specs.Scanning.{power_of, scan_of, next_power, next_mantissa, next_by, next_scan, scan_on, scan_all, is_whole, scanned_value, scanned_end, scanned_answer, unwritten_scan, with_sign}
+use Rattle.score_spec.specs.declared.numbers.NumberFault.TheVariants.{OutOfRange}
+use Rattle.score_spec.specs.Spelling.{Exponent, Spelling, signed}
+use Rattle.score_spec.specs.Reading.{only_if, is_exponent_letter, sign_of, is_absent, longer_exponent, longer_mantissa, longer, spell, spell_on, unwritten, is_complete, value_in_range, answer_to, read_as}
+use Rattle.score_spec.specs.Scanning.{power_of, scan_of, next_power, next_mantissa, next_scan, scan_on, scan_all, is_whole, scanned_value, scanned_end, scanned_answer, with_sign}
 
 -- a choice of options, mapped
 pick : {A B : Type 0} (f : A → B) (c : Bool) (x y : Option A) (v w : Option B) → v ≡ option_map f x → w ≡ option_map f y → (if c then v else w) ≡ option_map f (if c then x else y)

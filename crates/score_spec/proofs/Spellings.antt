@@ -1,17 +1,15 @@
 -- A spelling grows by a byte exactly where a value text runs on so.
-use Rattle.std.proofs.Common.{◌≡◌, ℕ, suc, ◌+◌, ◌<◌, ◌≤◌, ◌⊎◌, inl, inr, List, [], ◌∷◌, ◌++◌, length, take, drop, Option, Some, None, Result, Ok, Err, Bool, true, false, ℤ, refl, sym, ap, ◌∙◌, subst, arith, length-append, append_assoc, append-nil, add-zero}
-use Rattle.std.specs.Prelude.{if◌then◌else◌, ◌==◌, nat_lt, nat_le, is_none, ◌&&◌, ◌||◌, IfSome, OnSome}
+use Rattle.std.proofs.Common.{◌≡◌, ℕ, suc, ◌+◌, ◌<◌, ◌≤◌, ◌⊎◌, inl, inr, List, [], ◌∷◌, ◌++◌, length, Option, Some, None, Ok, Err, Bool, true, false, refl, sym, ap, ◌∙◌, subst, arith, length-append, append_assoc, append-nil, add-zero}
+use Rattle.std.specs.Prelude.{if◌then◌else◌, ◌==◌, nat_lt, is_none, ◌&&◌, IfSome, OnSome}
 use Rattle.std.specs.Option.{option_map}
 use Rattle.std.specs.Char.{is_digit, digit_value}
-use Rattle.std.specs.Str.Parse.{AllDigits, digits_value}
-use Rattle.std.proofs.lemmas.Bool.{lt-ltb, ltb-true, ltb-false, le-ltb, eqb-true, false≢true, cases_lt, cases_Bool}
+use Rattle.std.specs.Str.Parse.{AllDigits}
+use Rattle.std.proofs.lemmas.Bool.{lt-ltb, ltb-true, eqb-true, cases_Bool}
 use Rattle.std.proofs.lemmas.Int.Digits.{digits_push}
 use Rattle.score_spec.specs.declared.scan.Sign.{Sign}
 use Rattle.score_spec.specs.declared.scan.Sign.TheVariants.{Absent, Plus, Minus}
-use Rattle.score_spec.specs.declared.numbers.NumberFault.{NumberFault}
-use Rattle.score_spec.specs.declared.numbers.NumberFault.TheVariants.{BadNumber, OutOfRange}
 use Rattle.score_spec.specs.Spelling.{Exponent, Spelling, sign_text, point_text, exponent_text, text_of, fraction_of, mantissa_of, mantissa, IsExponent, IsSpelling, IsValueText, BeginsValueText}
-use Rattle.score_spec.specs.Reading.{only_if, is_exponent_letter, sign_of, is_absent, with_digit, longer_exponent, longer_mantissa, longer_by, longer, spell, spell_on, unwritten, has_exponent_digits, is_complete}
+use Rattle.score_spec.specs.Reading.{only_if, is_exponent_letter, sign_of, is_absent, with_digit, longer_exponent, longer_mantissa, longer_by, longer, spell, spell_on, unwritten}
 
 abbrev plain : Sign → List ℕ → Option (List ℕ) → Spelling
 plain sign whole point = record { sign = sign; whole = whole; point = point; exponent = None }

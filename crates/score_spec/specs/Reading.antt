@@ -1,8 +1,7 @@
 -- The answer to a text, computed: the spelling grows by a byte at a time for as long as a value text may run on so.
-use Rattle.std.specs.Prelude.{ℕ, ◌+◌, ◌*◌, ◌/◌, ◌^◌, Bool, true, false, ◌==◌, ◌&&◌, ◌||◌, nat_lt, nat_le, if◌then◌else◌, ℤ, List, [], ◌∷◌, ◌++◌, length, Option, Some, None, is_none, Result, Ok, Err}
+use Rattle.std.specs.Prelude.{ℕ, ◌+◌, ◌*◌, Bool, true, false, ◌==◌, ◌&&◌, ◌||◌, nat_lt, nat_le, if◌then◌else◌, ℤ, List, [], ◌∷◌, ◌++◌, length, Option, Some, None, is_none, Result, Ok, Err}
 use Rattle.std.specs.Option.{option_map}
 use Rattle.std.specs.Char.{is_digit}
-use Rattle.std.specs.Str.Parse.{digits_value}
 use Rattle.score_spec.specs.declared.scan.Sign.{Sign}
 use Rattle.score_spec.specs.declared.scan.Sign.TheVariants.{Absent, Plus, Minus}
 use Rattle.score_spec.specs.declared.numbers.NumberFault.{NumberFault}

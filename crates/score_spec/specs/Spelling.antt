@@ -1,5 +1,5 @@
 -- Value texts: how a value is spelled, and which number each spelling is.
-use Rattle.std.specs.Prelude.{◌≡◌, ℕ, ◌+◌, ◌*◌, ◌/◌, ◌^◌, ◌<◌, ◌≤◌, ◌⊎◌, ℤ, pos, neg_ℤ, List, [], ◌∷◌, ◌++◌, length, take, Option, Some, None, Result, Ok, Err, IfSome}
+use Rattle.std.specs.Prelude.{◌≡◌, ℕ, ◌+◌, ◌*◌, ◌^◌, ◌<◌, ◌≤◌, ◌⊎◌, ℤ, pos, neg_ℤ, List, [], ◌∷◌, ◌++◌, length, take, Option, Some, None, Result, Ok, Err, IfSome}
 use Rattle.std.specs.Str.Parse.{AllDigits, digits_value}
 use Rattle.score_spec.specs.declared.scan.Sign.{Sign}
 use Rattle.score_spec.specs.declared.scan.Sign.TheVariants.{Absent, Plus, Minus}

@@ -5,6 +5,8 @@ mod magnitude;
 mod numbers;
 mod scan;
 mod spec;
+#[cfg(test)]
+mod tests;
 mod text;
 
 pub use numbers::{NumberFault, Value, read_value};

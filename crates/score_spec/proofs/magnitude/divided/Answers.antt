@@ -1,8 +1,6 @@
 -- The bottom is at most 10 ^ 37, so what is computed fits 128 bits.
-use Rattle.std.proofs.Common.{◌≡◌, ◌+◌, ◌*◌, ◌/◌, ◌^◌, ◌<◌, ◌≤◌, Some, None, sym, ap, ◌∙◌, arith}
-use Rattle.std.proofs.lemmas.Nat.{pow_below}
-use Rattle.score_spec.specs.Magnitude.{magnitude_of, rounded}
-use Rattle.score_spec.proofs.Powers.{ten-pow-le, ten-pow-pos, magnitude-fits, magnitude-large, magnitude-zero, rounded-le}
+use Rattle.std.proofs.Common.{◌^◌, arith}
+use Rattle.score_spec.proofs.Powers.{ten-pow-le, ten-pow-pos, magnitude-zero}
 use Rattle.score_spec.proofs.magnitude.divided.Goals as goal
 
 pub returns-then-places-gt37-clause-value : goal.returns-then-places-gt37-clause-value

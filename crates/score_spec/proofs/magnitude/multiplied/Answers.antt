@@ -1,6 +1,6 @@
-use Rattle.std.proofs.Common.{◌≡◌, ◌+◌, ◌*◌, ◌/◌, ◌^◌, ◌<◌, ◌≤◌, Some, None, sym, ap, ◌∙◌, arith}
+use Rattle.std.proofs.Common.{◌*◌, ◌^◌, ◌≤◌, sym, arith}
 use Rattle.std.proofs.Math.Nat.{mul-le-mul}
-use Rattle.score_spec.proofs.Powers.{ten-pow-le, ten-pow-pos, magnitude-fits, magnitude-large}
+use Rattle.score_spec.proofs.Powers.{ten-pow-le, ten-pow-pos, magnitude-large}
 use Rattle.score_spec.proofs.magnitude.multiplied.Goals as goal
 
 pub returns-then-digits-gt100000-clause-value : goal.returns-then-digits-gt100000-clause-value

@@ -1,0 +1,5 @@
+pub mod Counts
+pub mod Names
+pub mod Progress
+pub mod Streams
+pub mod Texts

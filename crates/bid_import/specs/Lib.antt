@@ -1,0 +1,4 @@
+pub mod Fields
+pub mod Files
+pub mod Kinds
+pub mod Names

@@ -1,0 +1,69 @@
+// The number of the first record that is a row.
+
+ghost use Rattle.std.specs.Prelude.{◌≡◌, [], Some, IfOk, option_map};
+ghost use Rattle.csv.specs.Machine.{next_record};
+ghost use Rattle.csv.specs.Reading.{default_config, strip_bom};
+ghost use Rattle.csv.specs.Records.{fields_of};
+ghost use Rattle.csv.specs.declared.parser.State.TheVariants as st;
+ghost use Rattle.bid_import.specs.Files.{is_header, first_number, first_row_of};
+ghost use Rattle.bid_import.specs.Kinds.{columns_of};
+
+use crate::fault::FileKind;
+use crate::fields;
+use crate::records::text_of;
+use csv::{ByteRecord, ReaderBuilder, StringRecord};
+use std::alloc::{AllocError, Global};
+
+fn first_record(alloc: Global, bytes: &[u8]) -> Result<Option<ByteRecord>, AllocError>
+    ensures { IfOk result (λ o. option_map fields_of o ≡ option_map (λ p. p.0) (next_record default_config st.StartRecord [] [] (strip_bom bytes.now))) }
+{
+    let mut reader = ReaderBuilder::new()
+        .has_headers(false)
+        .from_reader(alloc, bytes);
+    let mut record = ByteRecord::new(alloc);
+    match reader.read_byte_record(&mut record) {
+        Ok(true) => Ok(Some(record)),
+        Ok(false) => Ok(None),
+        Err(_) => Err(AllocError),
+    }
+}
+
+fn has_columns(file: FileKind, found: &StringRecord) -> bool
+    ensures { result ≡ is_header (columns_of file) (fields_of found.now) }
+{
+    match file {
+        FileKind::Papers => fields::has_three(found, "paper", "demand", "institutions"),
+        FileKind::Reviewers => {
+            fields::has_four(found, "reviewer", "institution", "least", "greatest")
+        }
+        FileKind::Values => fields::has_three(found, "paper", "reviewer", "value"),
+        FileKind::Bids => fields::has_three(found, "paper", "reviewer", "bid"),
+        FileKind::Marks => fields::has_three(found, "paper", "reviewer", "mark"),
+        FileKind::Caps => fields::has_three(found, "paper", "reviewer", "cap"),
+    }
+}
+
+fn number_of(file: FileKind, raw: ByteRecord) -> u64
+    ensures { result ≡ first_number (columns_of file) (Some (fields_of raw)) }
+{
+    let found = match text_of(raw) {
+        Some(found) => found,
+        None => return 1,
+    };
+    if has_columns(file, &found) {
+        return 2;
+    }
+    1
+}
+
+/// The number of the first record that is a row of such a file: 2 where the names of the columns stand first,
+/// and else 1.
+pub fn first_row(alloc: Global, file: FileKind, bytes: &[u8]) -> Result<u64, AllocError>
+    ensures { IfOk result (λ number. number ≡ first_row_of (columns_of file) bytes.now) }
+{
+    match first_record(alloc, bytes) {
+        Ok(Some(raw)) => Ok(number_of(file, raw)),
+        Ok(None) => Ok(1),
+        Err(error) => Err(error),
+    }
+}

@@ -1,0 +1,16 @@
+// The files of a conference as rows: papers, reviewers, values, bids, marks, caps.
+#![tactic(auto)]
+
+mod fault;
+mod fields;
+mod first;
+mod kinds;
+mod records;
+mod rows;
+#[cfg(test)]
+mod tests;
+
+pub use fault::{Code, FileKind, ImportFault, Key};
+pub use first::first_row;
+pub use kinds::{read_bids, read_caps, read_marks, read_papers, read_reviewers, read_values};
+pub use rows::{BidRow, CapRow, MarkRow, ValueRow};
