@@ -1,6 +1,6 @@
 -- The circulations of the network of rules are exactly the flows of the amounts within the bounds.
-use Rattle.std.proofs.Common.{◌≡◌, ℕ, zero, suc, ◌+◌, ◌-◌, ◌<◌, ◌≤◌, Bool, List, length, get_or, take, refl, sym, ap, ◌∙◌, subst, arith}
-use Rattle.std.specs.Prelude.{ℤ, pos, ◌+ℤ◌, ◌*ℤ◌, slice_index, ◌==◌}
+use Rattle.std.proofs.Common.{◌≡◌, ℕ, ◌+◌, ◌<◌, ◌≤◌, Bool, List, length, sym, ap, ◌∙◌, subst, arith}
+use Rattle.std.specs.Prelude.{pos, ◌*ℤ◌, slice_index, ◌==◌}
 use Rattle.std.proofs.lemmas.Int.{ints}
 use Rattle.std.proofs.lemmas.List.{get_or-take, length-take-le}
 use Rattle.std.proofs.lemmas.Grind.{same_number_lists}
@@ -9,7 +9,7 @@ use Rattle.match_rules.specs.Rules.{RulesValue, AreRules, pair_at}
 use Rattle.match_rules.specs.Groups.{group_count, is_in_group}
 use Rattle.match_rules.specs.Answers.{shares_where}
 use Rattle.match_rules.specs.SharesFit.{paper_shares, group_shares, reviewer_shares}
-use Rattle.match_rules.specs.Sums.{sum_below, count_below, when}
+use Rattle.match_rules.specs.Sums.{when}
 use Rattle.bounded_network.specs.declared.network.Arc.{Arc}
 use Rattle.bounded_network.specs.Network.{NetworkValue, IsCirculation, arc_at, no_arc, flow_cost}
 use Rattle.bounded_network.specs.Spans.{Spans, AreWithin, IsBetween, amounts_cost}

@@ -1,5 +1,5 @@
 -- The cut of marks has to pass what has to enter them, and may pass what can leave them.
-use Rattle.std.proofs.Common.{◌≡◌, ℕ, zero, suc, ◌+◌, ◌-◌, ◌*◌, ◌<◌, ◌≤◌, ◌⊎◌, Bool, true, false, not, ◌&&◌, ◌||◌, List, [], ◌∷◌, ◌++◌, length, Option, Some, None, refl, sym, ap, ◌∙◌, subst, arith, inl, inr}
+use Rattle.std.proofs.Common.{◌≡◌, ℕ, zero, suc, ◌+◌, ◌*◌, ◌<◌, ◌≤◌, Bool, true, false, not, ◌&&◌, ◌||◌, List, [], ◌∷◌, ◌++◌, length, Option, Some, None, refl, sym, ap, ◌∙◌, arith, inl, inr}
 use Rattle.std.specs.Prelude.{◌==◌, slice_index, if◌then◌else◌}
 use Rattle.std.specs.List.{All}
 use Rattle.std.specs.Option.{option_map_or}
@@ -8,7 +8,6 @@ use Rattle.std.proofs.lemmas.List.{length-append, get_or-append-add, get_or_appe
 use Rattle.std.proofs.lemmas.List.Elements.{All-nil, All-push}
 use Rattle.std.proofs.lemmas.List.Folds.{list_any-append}
 use Rattle.match_rules.specs.declared.answer.Cut.{Cut}
-use Rattle.match_rules.specs.declared.answer.Side.{Side}
 use Rattle.match_rules.specs.declared.answer.Side.TheVariants.{Into, OutOf}
 use Rattle.match_rules.specs.declared.answer.Sieve.{Sieve}
 use Rattle.match_rules.specs.Rules.{RulesValue, AreRules, paper_at, reviewer_at, pair_at}
@@ -16,14 +15,14 @@ use Rattle.match_rules.specs.Pieces.{DoAscend}
 use Rattle.match_rules.specs.Groups.{group_count, group_of, paper_of_group}
 use Rattle.match_rules.specs.Assignments.{keeps, cap_under}
 use Rattle.match_rules.specs.Answers.{AreMarks, CutMatches}
-use Rattle.match_rules.specs.Evidence.{marks, tail_marked, head_marked, enters, leaves, leaves_group, enters_group, demand_marked, least_marked, greatest_marked, groups_where, floors_where, caps_where, need_by, room_by, need, room, Violated}
+use Rattle.match_rules.specs.Evidence.{marks, tail_marked, head_marked, leaves_group, enters_group, floors_where, caps_where, need_by, room_by, need, room, Violated}
 use Rattle.match_rules.specs.Sums.{count_below, when}
 use Rattle.match_rules.proofs.GroupLaws.{group_of_below}
 use Rattle.bounded_network.specs.declared.network.Arc.{Arc}
-use Rattle.bounded_network.specs.Network.{NetworkValue, AreViolated, no_arc, is_marked, floors_into, rooms_out_of}
+use Rattle.bounded_network.specs.Network.{AreViolated, no_arc, is_marked, floors_into, rooms_out_of}
 use Rattle.bounded_network.specs.Spans.{Spans, ticket_spans}
 use Rattle.bounded_network.specs.Compile.{network_of, hub, group_node, reviewer_node, tail_of, pair_arc, paper_arc, group_arc, reviewer_arc}
-use Rattle.bounded_network.specs.Back.{places_where, is_apart, side_in, cut_in}
+use Rattle.bounded_network.specs.Back.{places_where, is_apart, cut_in}
 use Rattle.bounded_network.proofs.Sums.{count_below-equal}
 use Rattle.bounded_network.proofs.Counts.{count_below-zero, when-zero}
 use Rattle.bounded_network.proofs.Parts.{count_in_four}

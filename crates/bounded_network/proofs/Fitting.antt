@@ -1,9 +1,9 @@
 -- Shares that fit rules are the amounts within the bounds of tickets, and what the network of rules is for.
-use Rattle.std.proofs.Common.{◌≡◌, ℕ, ◌+◌, ◌*◌, ◌<◌, ◌≤◌, Bool, List, length, refl, sym, ap, ◌∙◌, arith}
+use Rattle.std.proofs.Common.{ℕ, ◌<◌, ◌≤◌, List, length, arith}
 use Rattle.std.specs.Prelude.{slice_index}
 use Rattle.match_rules.specs.declared.answer.Sieve.{Sieve}
 use Rattle.match_rules.specs.Rules.{RulesValue, AreRules, pair_at}
-use Rattle.match_rules.specs.Assignments.{keeps, cap_under}
+use Rattle.match_rules.specs.Assignments.{keeps}
 use Rattle.match_rules.specs.SharesFit.{SharesFit}
 use Rattle.bounded_network.specs.Network.{IsNetwork, IsCirculation}
 use Rattle.bounded_network.specs.Spans.{AreWithin, ticket_spans, rounded_spans}

@@ -1,5 +1,5 @@
 -- A flow of the network of rules balances exactly where each paper, group and reviewer passes on the sum of its pairs.
-use Rattle.std.proofs.Common.{◌≡◌, ℕ, zero, suc, ◌+◌, ◌-◌, ◌<◌, ◌≤◌, ◌⊎◌, Bool, true, false, List, length, get_or, Option, Some, None, refl, sym, ap, ◌∙◌, subst, arith, inl, inr}
+use Rattle.std.proofs.Common.{◌≡◌, ℕ, ◌+◌, ◌-◌, ◌<◌, false, List, length, Option, Some, None, refl, sym, ap, ◌∙◌, subst, arith, inl, inr}
 use Rattle.std.specs.Prelude.{◌==◌, slice_index}
 use Rattle.std.specs.Option.{option_map_or}
 use Rattle.std.proofs.lemmas.Bool.{eq-eqb, ne_eqb, cases_eq, cases_lt}
@@ -9,7 +9,7 @@ use Rattle.match_rules.specs.SharesFit.{paper_shares, group_shares, reviewer_sha
 use Rattle.match_rules.specs.Sums.{count_below, when}
 use Rattle.match_rules.proofs.GroupLaws.{group_of_below, group_of_paper, group_has_pair}
 use Rattle.bounded_network.specs.declared.network.Arc.{Arc}
-use Rattle.bounded_network.specs.Network.{NetworkValue, arc_at, no_arc, entering, leaving}
+use Rattle.bounded_network.specs.Network.{NetworkValue, no_arc, entering, leaving}
 use Rattle.bounded_network.specs.Spans.{Spans}
 use Rattle.bounded_network.specs.Compile.{group_node, reviewer_node, hub, node_count, tail_of, pair_arc, paper_arc, group_arc, reviewer_arc, network_of}
 use Rattle.bounded_network.proofs.Sums.{count_below-equal, when-same, when-other}

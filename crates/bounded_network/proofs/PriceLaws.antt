@@ -1,6 +1,6 @@
 -- The bound of the prices of optimal potentials is the score of the shares.
-use Rattle.std.proofs.Common.{◌≡◌, ℕ, zero, suc, ◌+◌, ◌-◌, ◌*◌, ◌<◌, ◌≤◌, ◌⊎◌, Bool, true, false, List, length, get_or, Option, Some, None, refl, sym, ap, ◌∙◌, subst, arith, inl, inr}
-use Rattle.std.specs.Prelude.{ℤ, pos, negsuc, neg_ℤ, ◌+ℤ◌, ◌-ℤ◌, ◌*ℤ◌, ◌≤ℤ◌, ◌==◌, slice_index}
+use Rattle.std.proofs.Common.{◌≡◌, ℕ, zero, suc, ◌+◌, ◌*◌, ◌<◌, ◌≤◌, ◌⊎◌, Bool, true, false, List, length, Option, Some, None, refl, sym, ap, ◌∙◌, arith, inl, inr}
+use Rattle.std.specs.Prelude.{ℤ, pos, negsuc, neg_ℤ, ◌+ℤ◌, ◌-ℤ◌, ◌*ℤ◌, ◌≤ℤ◌, slice_index}
 use Rattle.std.specs.Int.{int_max}
 use Rattle.std.specs.Option.{option_map_or}
 use Rattle.std.proofs.lemmas.Int.{ints, clamps}
@@ -11,14 +11,14 @@ use Rattle.match_rules.specs.declared.answer.Sieve.{Sieve}
 use Rattle.match_rules.specs.Rules.{RulesValue, AreRules, paper_at, reviewer_at, pair_at}
 use Rattle.match_rules.specs.Groups.{group_count, group_of, paper_of_group}
 use Rattle.match_rules.specs.Assignments.{keeps, cap_under}
-use Rattle.match_rules.specs.Evidence.{bound, rest, price_at, group_price, most_at, paper_part, group_part, reviewer_part, pair_part}
+use Rattle.match_rules.specs.Evidence.{bound, rest, price_at, most_at, paper_part, group_part, reviewer_part, pair_part}
 use Rattle.match_rules.specs.SharesFit.{shares_score}
 use Rattle.match_rules.specs.Sums.{sum_below, when, int_when}
 use Rattle.match_rules.proofs.GroupLaws.{group_of_below, group_of_paper}
 use Rattle.bounded_network.specs.declared.network.Arc.{Arc}
 use Rattle.bounded_network.specs.Network.{NetworkValue, IsNetwork, IsCirculation, AreOptimal, arc_at, no_arc, flow_cost, reduced_cost, potential_at}
 use Rattle.bounded_network.specs.Spans.{Spans, ticket_spans, amounts_cost}
-use Rattle.bounded_network.specs.Compile.{network_of, amounts_in, listed, hub, group_node, reviewer_node, tail_of, pair_arc, paper_arc, group_arc, reviewer_arc}
+use Rattle.bounded_network.specs.Compile.{network_of, amounts_in, group_node, reviewer_node, pair_arc, paper_arc, group_arc, reviewer_arc}
 use Rattle.bounded_network.specs.Back.{prices_in, paper_price_in, group_price_in, reviewer_price_in}
 use Rattle.bounded_network.proofs.Scaled.{scale-suc, scale--ℤ, scale_by_sum, scale_not_negative, scale_more, scale_less}
 use Rattle.bounded_network.proofs.Sums.{sum_below-equal}

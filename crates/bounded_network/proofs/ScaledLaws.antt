@@ -1,19 +1,18 @@
 -- Violated marks exclude balanced amounts at any scale; the amounts that are left balance in the rounded network.
-use Rattle.std.proofs.Common.{◌≡◌, ℕ, zero, suc, ◌+◌, ◌-◌, ◌*◌, ◌/◌, ◌%◌, ◌<◌, ◌≤◌, min, Bool, true, false, not, ◌&&◌, List, length, refl, sym, ap, ◌∙◌, arith, inl, inr}
-use Rattle.std.specs.Prelude.{ℤ, pos, negsuc, ◌+ℤ◌, ◌-ℤ◌, ◌*ℤ◌, ◌≤ℤ◌, ◌==◌, slice_index}
+use Rattle.std.proofs.Common.{◌≡◌, ℕ, zero, suc, ◌+◌, ◌-◌, ◌*◌, ◌/◌, ◌%◌, ◌<◌, ◌≤◌, min, Bool, true, false, not, ◌&&◌, List, length, refl, ◌∙◌, arith}
+use Rattle.std.specs.Prelude.{ℤ, pos, ◌-ℤ◌, ◌*ℤ◌, ◌≤ℤ◌, slice_index}
 use Rattle.std.proofs.lemmas.Int.{ints}
-use Rattle.std.proofs.lemmas.Bool.{cases_eq, cases_lt}
 use Rattle.std.proofs.Math.IntN.{*ℤ-zero}
 use Rattle.std.proofs.Math.Nat.{div-add-mod}
 use Rattle.match_rules.specs.Rules.{RulesValue, AreRules}
 use Rattle.match_rules.specs.Sums.{sum_below, count_below, when}
 use Rattle.bounded_network.specs.declared.network.Arc.{Arc}
-use Rattle.bounded_network.specs.Network.{NetworkValue, IsNetwork, IsCirculation, AreViolated, entering, leaving, arc_at, is_marked, floors_into, rooms_out_of}
+use Rattle.bounded_network.specs.Network.{NetworkValue, IsNetwork, AreViolated, entering, leaving, arc_at, is_marked, floors_into, rooms_out_of}
 use Rattle.bounded_network.specs.Scaled.{IsScaled}
 use Rattle.bounded_network.specs.Spans.{rounded, rounded_spans}
 use Rattle.bounded_network.specs.Compile.{network_of, flow_of}
 use Rattle.bounded_network.proofs.Scaled.{scale--ℤ}
-use Rattle.bounded_network.proofs.Sums.{sum_below-le, sum_below-zero, sum_below--ℤ, sum_below-pos, sum_below-equal}
+use Rattle.bounded_network.proofs.Sums.{sum_below-le, sum_below-zero, sum_below--ℤ, sum_below-pos}
 use Rattle.bounded_network.proofs.Laws.{rises-are-excesses, mark_weight, mark_bound}
 use Rattle.bounded_network.proofs.Compiled.{each_arc, flow-of_pair, flow-of_paper, flow-of_group, flow-of_reviewer, flow-passes}
 use Rattle.bounded_network.proofs.Nodes.{balanced-of_passes}

@@ -1,5 +1,4 @@
 -- The network of rules for either kind of amounts.
-use Rattle.std.proofs.Common.{◌≡◌, ℕ, List, length}
 use Rattle.match_rules.specs.declared.answer.Sieve.{Sieve}
 use Rattle.match_rules.specs.Rules.{RulesValue, AreRules}
 use Rattle.bounded_network.specs.declared.spans.Amounts.{Amounts}

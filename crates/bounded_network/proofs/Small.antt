@@ -1,23 +1,23 @@
 -- The network of rules is within the limits of a network.
-use Rattle.std.proofs.Common.{◌≡◌, ℕ, zero, suc, ◌+◌, ◌-◌, ◌*◌, ◌/◌, ◌%◌, ◌^◌, ◌<◌, ◌≤◌, ◌⊎◌, min, Bool, true, false, List, length, refl, sym, ap, ◌∙◌, arith, inl, inr}
-use Rattle.std.specs.Prelude.{ℤ, pos, negsuc, neg_ℤ, ◌≤ℤ◌, ◌==◌, ◌||◌, slice_index}
+use Rattle.std.proofs.Common.{◌≡◌, ℕ, suc, ◌+◌, ◌-◌, ◌*◌, ◌/◌, ◌%◌, ◌^◌, ◌<◌, ◌≤◌, ◌⊎◌, Bool, true, false, List, length, sym, ◌∙◌, arith, inl, inr}
+use Rattle.std.specs.Prelude.{pos, negsuc, ◌≤ℤ◌, ◌||◌, slice_index}
 use Rattle.std.proofs.lemmas.Int.{ints}
-use Rattle.std.proofs.lemmas.Bool.{cases_eq, eq-eqb}
-use Rattle.std.proofs.Math.Nat.{div-add-mod, div-le_self}
+use Rattle.std.proofs.lemmas.Bool.{eq-eqb}
+use Rattle.std.proofs.Math.Nat.{div-add-mod}
 use Rattle.match_rules.specs.declared.answer.Sieve.{Sieve}
 use Rattle.match_rules.specs.declared.rules.TheConstants.{MOST_TICKETS}
-use Rattle.match_rules.specs.Rules.{RulesValue, AreRules, paper_at, reviewer_at, pair_at, is_locked, demand_total}
+use Rattle.match_rules.specs.Rules.{RulesValue, AreRules, paper_at, reviewer_at, pair_at, is_locked}
 use Rattle.match_rules.specs.Groups.{group_count}
 use Rattle.match_rules.specs.Answers.{shares_where}
 use Rattle.match_rules.specs.Assignments.{keeps, lets_pass, cap_under}
 use Rattle.match_rules.specs.SharesFit.{paper_shares, group_shares, reviewer_shares}
-use Rattle.match_rules.specs.Sums.{count_below, when}
+use Rattle.match_rules.specs.Sums.{when}
 use Rattle.match_rules.proofs.GroupLaws.{group_count_few}
 use Rattle.bounded_network.specs.declared.network.Arc.{Arc}
 use Rattle.bounded_network.specs.declared.spans.Span.{Span}
 use Rattle.bounded_network.specs.Network.{IsNetwork, IsArc}
 use Rattle.bounded_network.specs.Spans.{Spans, rounded, ticket_spans, rounded_spans}
-use Rattle.bounded_network.specs.Compile.{network_of, node_count, hub, pair_arc, paper_arc, group_arc, reviewer_arc}
+use Rattle.bounded_network.specs.Compile.{network_of, node_count}
 use Rattle.bounded_network.specs.Totals.{AreWords}
 use Rattle.bounded_network.proofs.Sums.{count_below-at_most}
 use Rattle.bounded_network.proofs.Compiled.{arc_count, each_arc}

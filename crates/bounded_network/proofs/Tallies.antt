@@ -1,5 +1,5 @@
 -- Sums that a loop over the pairs adds up, one amount at a time.
-use Rattle.std.proofs.Common.{◌≡◌, ℕ, zero, suc, ◌+◌, ◌*◌, ◌^◌, ◌<◌, ◌≤◌, Bool, true, false, List, [], length, get_or, set, replicate, refl, sym, ap, ◌∙◌, subst, arith, inl, inr, add-one, get_or-set_other, get_or-set_same}
+use Rattle.std.proofs.Common.{◌≡◌, ℕ, suc, ◌+◌, ◌^◌, ◌<◌, ◌≤◌, Bool, true, false, List, length, get_or, set, replicate, refl, sym, ap, ◌∙◌, arith, inl, inr, get_or-set_other, get_or-set_same}
 use Rattle.std.specs.Prelude.{◌==◌, slice_index}
 use Rattle.std.proofs.Math.ListN.{length-set}
 use Rattle.std.proofs.lemmas.Bool.{cases_eq, eq-eqb, ne_eqb}
@@ -7,7 +7,6 @@ use Rattle.std.proofs.lemmas.Grind.{same_number_lists}
 use Rattle.std.proofs.lemmas.List.{get_or-replicate, length-replicate}
 use Rattle.match_rules.specs.Sums.{count_below, when}
 use Rattle.bounded_network.specs.Compile.{listed}
-use Rattle.bounded_network.specs.Totals.{AreWords}
 use Rattle.bounded_network.proofs.Sums.{count_below-at_most}
 use Rattle.bounded_network.proofs.Parts.{length-listed, listed-at}
 

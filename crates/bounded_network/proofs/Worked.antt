@@ -1,6 +1,6 @@
 -- What runs of the calls on the worked examples rest on.
-use Rattle.std.proofs.Common.{◌≡◌, ℕ, zero, suc, ◌+◌, ◌*◌, ◌<◌, ◌≤◌, Bool, true, false, List, [], ◌∷◌, length, refl, arith, lit<, lit≤}
-use Rattle.std.specs.Prelude.{ℤ, pos, neg_ℤ, negsuc, ◌≤ℤ◌, slice_index}
+use Rattle.std.proofs.Common.{◌≡◌, ℕ, zero, suc, ◌*◌, ◌<◌, ◌≤◌, Bool, true, false, List, [], ◌∷◌, refl, arith, lit<, lit≤}
+use Rattle.std.specs.Prelude.{ℤ, pos, neg_ℤ, slice_index}
 use Rattle.std.proofs.lemmas.Int.{ints}
 use Rattle.match_rules.specs.declared.answer.Sieve.TheVariants.{All as EveryPair}
 use Rattle.match_rules.specs.Rules.{AreRules, pair_at, paper_at, reviewer_at}

@@ -1,5 +1,5 @@
 -- What potentials and marks of the network of rules mean for the rules: prices and a cut.
-use Rattle.std.specs.Prelude.{◌≡◌, ℕ, zero, suc, ◌+◌, ◌*◌, ◌<◌, Bool, not, if◌then◌else◌, List, [], ◌∷◌, ◌++◌, length, ℤ, pos, ◌-ℤ◌}
+use Rattle.std.specs.Prelude.{ℕ, zero, suc, ◌*◌, Bool, not, if◌then◌else◌, List, [], ◌∷◌, ◌++◌, length, ℤ, ◌-ℤ◌}
 use Rattle.match_rules.specs.declared.answer.Cut.{Cut}
 use Rattle.match_rules.specs.declared.answer.Prices.{Prices}
 use Rattle.match_rules.specs.declared.answer.Side.{Side}

@@ -149,6 +149,8 @@ fn a_house_of_two_allows_one(rt: HostRuntime) -> Result<(), Fail> {
 #[test]
 fn half_of_the_tickets_each(rt: HostRuntime) -> Result<(), Fail> {
     let rules = small(rt.alloc(), 5000)?;
+    let pairs = rules.pairs();
+    assert_eq!(rt; pairs.len(), 4);
     let flow = [5000, 5000, 5000, 5000, 10_000, 10_000, 10_000, 10_000];
     let shares = shares_of(rt.alloc(), &rules, Sieve::All, &flow)?;
     assert_eq!(rt; shares.as_slice(), [5000, 5000, 5000, 5000].as_slice());

@@ -1,12 +1,6 @@
-use Rattle.std.proofs.Common.{◌≡◌, rules, ◌∙◌, ap, sym, subst}
-use Rattle.match_rules.specs.declared.answer.Cut.{Cut}
+use Rattle.std.proofs.Common.{rules, ◌∙◌, ap, sym, subst}
 use Rattle.match_rules.specs.Answers.{CutMatches}
 use Rattle.match_rules.specs.Evidence.{need, room, Violated}
-use Rattle.match_rules.specs.Rules.{RulesValue, AreRules}
-use Rattle.bounded_network.specs.Back.{cut_in}
-use Rattle.bounded_network.specs.Compile.{network_of}
-use Rattle.bounded_network.specs.Network.{floors_into, rooms_out_of}
-use Rattle.bounded_network.specs.Spans.{ticket_spans}
 use Rattle.bounded_network.proofs.CutLaws.{cut-matches, need-is_floors, room-is_rooms, cut-violated}
 use Rattle.bounded_network.proofs.back.cut_of.Goals as goal
 

@@ -1,8 +1,7 @@
-use Rattle.std.proofs.Common.{◌≡◌, ◌+◌, ◌<◌, ◌++◌, ◌∷◌, [], ℕ, List, length, rules, ap, sym, ◌∙◌, arith, w64}
+use Rattle.std.proofs.Common.{◌≡◌, ◌++◌, ◌∷◌, [], ℕ, rules, ap, sym, ◌∙◌, w64}
 use Rattle.std.specs.Prelude.{ℤ, ◌-ℤ◌}
 use Rattle.std.specs.Int.RustNames.{FitsSigned}
 use Rattle.std.proofs.lemmas.Int.{to_z-of_z}
-use Rattle.match_rules.specs.Rules.{RulesValue, AreRules}
 use Rattle.bounded_network.specs.Network.{potential_at}
 use Rattle.bounded_network.specs.Back.{paper_price_in}
 use Rattle.bounded_network.specs.Compile.{listed}

@@ -1,8 +1,6 @@
-use Rattle.std.proofs.Common.{◌≡◌, rules, ◌∙◌, ap, sym, subst}
-use Rattle.match_rules.specs.declared.answer.Prices.{Prices}
+use Rattle.std.proofs.Common.{rules, ◌∙◌, ap, sym, subst}
 use Rattle.match_rules.specs.Answers.{PricesMatch}
 use Rattle.match_rules.specs.Evidence.{bound}
-use Rattle.match_rules.specs.Rules.{RulesValue, AreRules}
 use Rattle.bounded_network.proofs.BackLaws.{prices-match}
 use Rattle.bounded_network.proofs.PriceLaws.{bound-is_score}
 use Rattle.bounded_network.proofs.back.prices_of.Goals as goal

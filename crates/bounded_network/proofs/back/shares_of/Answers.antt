@@ -1,9 +1,8 @@
-use Rattle.std.proofs.Common.{◌≡◌, ◌+◌, ◌<◌, ◌≤◌, ◌++◌, ◌∷◌, [], ℕ, List, length, take, get_or, slice_index, arith, ap, sym, ◌∙◌}
-use Rattle.std.proofs.lemmas.List.{take_more, take_all}
-use Rattle.match_rules.specs.Rules.{RulesValue, AreRules}
-use Rattle.match_rules.specs.SharesFit.{SharesFit}
+use Rattle.std.proofs.Common.{◌≡◌, ◌<◌, ◌++◌, ◌∷◌, [], length, take, slice_index, arith, ap, sym, ◌∙◌}
+use Rattle.std.proofs.lemmas.List.{take_more}
+use Rattle.match_rules.specs.Rules.{RulesValue}
 use Rattle.bounded_network.specs.Spans.{ticket_spans}
-use Rattle.bounded_network.specs.Compile.{network_of, amounts_in}
+use Rattle.bounded_network.specs.Compile.{amounts_in}
 use Rattle.bounded_network.proofs.Compiled.{arc_count}
 use Rattle.bounded_network.proofs.Fitting.{are-shares, circulation-small}
 use Rattle.bounded_network.proofs.back.shares_of.Goals as goal

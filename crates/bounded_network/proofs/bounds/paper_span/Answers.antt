@@ -1,4 +1,4 @@
-use Rattle.std.proofs.Common.{ℕ, ◌≡◌, ◌<◌, length, get_or, ap, ◌∙◌, arith}
+use Rattle.std.proofs.Common.{◌≡◌, length, ap, ◌∙◌, arith}
 use Rattle.match_rules.specs.Rules.{RulesValue}
 use Rattle.match_rules.specs.SharesFit.{paper_shares}
 use Rattle.bounded_network.specs.Spans.{rounded}

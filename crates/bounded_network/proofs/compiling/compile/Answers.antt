@@ -1,8 +1,7 @@
-use Rattle.std.proofs.Common.{◌≡◌, refl}
 use Rattle.match_rules.specs.Rules.{RulesValue, AreRules}
-use Rattle.bounded_network.specs.Network.{NetworkValue, IsNetwork}
+use Rattle.bounded_network.specs.Network.{IsNetwork}
 use Rattle.bounded_network.specs.Spans.{Spans, spans_of}
-use Rattle.bounded_network.specs.Compile.{network_of, Compiles, Serves}
+use Rattle.bounded_network.specs.Compile.{network_of}
 use Rattle.bounded_network.proofs.Compiled.{compiled}
 use Rattle.bounded_network.proofs.Serving.{within-limits, serves}
 use Rattle.bounded_network.proofs.compiling.compile.Goals as goal

@@ -1,8 +1,8 @@
-use Rattle.std.proofs.Common.{rules, ◌≡◌, ℕ, ◌+◌, ◌^◌, ◌<◌, ◌≤◌, ◌==◌, Bool, length, slice_index, arith, ap, sym, refl}
+use Rattle.std.proofs.Common.{rules, ◌≡◌, length, slice_index, arith}
 use Rattle.match_rules.specs.Rules.{RulesValue, AreRules}
 use Rattle.match_rules.specs.Groups.{group_count, is_in_group}
 use Rattle.bounded_network.specs.Totals.{AreWords}
-use Rattle.bounded_network.proofs.Tallies.{IsTally, tally-small, tally-more, tally-skip, tally-all}
+use Rattle.bounded_network.proofs.Tallies.{tally-small, tally-all}
 use Rattle.bounded_network.proofs.totals.of_groups.Goals as goal
 
 pub add-requires-clause-fits : goal.add-requires-clause-fits

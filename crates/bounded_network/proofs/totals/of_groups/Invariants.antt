@@ -1,4 +1,4 @@
-use Rattle.std.proofs.Common.{◌==◌, length, slice_index}
+use Rattle.std.proofs.Common.{slice_index}
 use Rattle.match_rules.specs.Groups.{group_count, is_in_group}
 use Rattle.bounded_network.proofs.Tallies.{IsTally}
 use Rattle.bounded_network.proofs.totals.of_groups.Given as goal

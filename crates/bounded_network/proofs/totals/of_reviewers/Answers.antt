@@ -1,8 +1,7 @@
-use Rattle.std.proofs.Common.{rules, ◌≡◌, ℕ, ◌+◌, ◌^◌, ◌<◌, ◌≤◌, ◌==◌, Bool, length, slice_index, arith, ap, sym, refl}
-use Rattle.std.proofs.lemmas.Bool.{eq-eqb}
+use Rattle.std.proofs.Common.{rules, ◌≡◌, ℕ, ◌<◌, ◌==◌, length, slice_index, arith, refl}
 use Rattle.match_rules.specs.Rules.{RulesValue, AreRules, pair_at}
 use Rattle.bounded_network.specs.Totals.{AreWords}
-use Rattle.bounded_network.proofs.Tallies.{IsTally, tally-small, tally-more, tally-all}
+use Rattle.bounded_network.proofs.Tallies.{tally-small, tally-more, tally-all}
 use Rattle.bounded_network.proofs.totals.of_reviewers.Goals as goal
 
 pub add-requires-clause-fits : goal.add-requires-clause-fits

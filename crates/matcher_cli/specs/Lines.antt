@@ -1,0 +1,50 @@
+-- The lines that the check writes.
+use Rattle.std.specs.Prelude.{ℕ, ℤ, List, ◌++◌, codes}
+use Rattle.match_rules.specs.declared.breaks.Break.{Break}
+use Rattle.match_rules.specs.declared.breaks.Break.TheVariants as broken
+use Rattle.text_lines.specs.Labels.{labelled, labelled_signed}
+
+-- a lottery of so many pieces meets the rules
+unfoldable pub meets_line : ℕ → List ℕ
+meets_line pieces = labelled (codes "meets whole pieces ") pieces ++ codes "\n"
+
+-- labelled numbers and a line feed
+unfoldable pub one_number : List ℕ → ℕ → List ℕ
+one_number label number = labelled label number ++ codes "\n"
+
+unfoldable pub two_numbers : List ℕ → ℕ → List ℕ → ℕ → List ℕ
+two_numbers label number other second = (labelled label number ++ labelled other second) ++ codes "\n"
+
+unfoldable pub three_numbers : List ℕ → ℕ → List ℕ → ℕ → List ℕ → ℕ → List ℕ
+three_numbers label number other second last third = ((labelled label number ++ labelled other second) ++ labelled last third) ++ codes "\n"
+
+unfoldable pub two_signed : List ℕ → ℤ → List ℕ → ℤ → List ℕ
+two_signed label number other second = (labelled_signed label number ++ labelled_signed other second) ++ codes "\n"
+
+unfoldable pub one_signed : List ℕ → ℤ → List ℕ
+one_signed label number = labelled_signed label number ++ codes "\n"
+
+-- the line of a broken clause
+abbrev pub broken_line : Break → List ℕ
+broken_line (broken.Tickets sum) = one_number (codes "broken 1 sum ") sum
+broken_line (broken.Demand piece paper count) = three_numbers (codes "broken 2 piece ") piece (codes " paper ") paper (codes " count ") count
+broken_line (broken.Load piece reviewer count) = three_numbers (codes "broken 3 piece ") piece (codes " reviewer ") reviewer (codes " count ") count
+broken_line (broken.Group piece group count) = three_numbers (codes "broken 4 piece ") piece (codes " group ") group (codes " count ") count
+broken_line (broken.Lock piece pair) = two_numbers (codes "broken 5 piece ") piece (codes " pair ") pair
+broken_line (broken.Share pair printed counted) = three_numbers (codes "broken 6 pair ") pair (codes " printed ") printed (codes " counted ") counted
+broken_line (broken.Cap pair) = one_number (codes "broken 7 pair ") pair
+broken_line (broken.Below pair) = one_number (codes "broken 8 pair ") pair
+broken_line (broken.NoSuchScore score) = one_signed (codes "broken 9 score ") score
+broken_line (broken.Above need room) = two_numbers (codes "broken 10 need ") need (codes " room ") room
+broken_line (broken.Total printed counted) = two_signed (codes "broken 11 printed ") printed (codes " counted ") counted
+broken_line (broken.Bound total bound) = two_signed (codes "broken 12 total ") total (codes " bound ") bound
+broken_line (broken.Counted need room) = two_numbers (codes "broken 13 need ") need (codes " room ") room
+broken_line (broken.NotViolated need room) = two_numbers (codes "broken 14 need ") need (codes " room ") room
+
+-- a text that is no certificate
+unfoldable pub refused_line : List ℕ
+refused_line = codes "refused text\n"
+
+-- the words that are taken
+unfoldable pub usage_text : List ℕ
+usage_text = codes "usage: matcher check\n"

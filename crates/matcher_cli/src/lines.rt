@@ -1,0 +1,156 @@
+// The lines that the check writes.
+ghost use Rattle.std.specs.Prelude.{◌≡◌, ◌+◌, ◌≤◌, length, codes};
+ghost use Rattle.matcher_cli.specs.Lines.{meets_line, broken_line, one_number, two_numbers, three_numbers, one_signed, two_signed, refused_line, usage_text};
+
+use match_rules::Break;
+use text_lines::LineBuffer;
+
+/// A labelled number and a line feed.
+#[tactic(auto, unfolding(crate::specs::Lines::one_number))]
+fn one_number(label: &[u8], number: u64) -> LineBuffer
+    requires { length label.now ≤ 64 }
+    ensures { result ≡ one_number label.now number }
+{
+    let mut line = LineBuffer::new();
+    line.push_labelled(label, number);
+    line.push(b"\n");
+    line
+}
+
+#[tactic(auto, unfolding(crate::specs::Lines::two_numbers))]
+fn two_numbers(label: &[u8], number: u64, other: &[u8], second: u64) -> LineBuffer
+    requires label { length label.now ≤ 64 }
+    requires other { length other.now ≤ 64 }
+    ensures { result ≡ two_numbers label.now number other.now second }
+{
+    let mut line = LineBuffer::new();
+    line.push_labelled(label, number);
+    line.push_labelled(other, second);
+    line.push(b"\n");
+    line
+}
+
+#[tactic(auto, unfolding(crate::specs::Lines::three_numbers))]
+fn three_numbers(
+    label: &[u8],
+    number: u64,
+    other: &[u8],
+    second: u64,
+    last: &[u8],
+    third: u64,
+) -> LineBuffer
+    requires label { length label.now ≤ 64 }
+    requires other { length other.now ≤ 64 }
+    requires last { length last.now ≤ 64 }
+    ensures { result ≡ three_numbers label.now number other.now second last.now third }
+{
+    let mut line = LineBuffer::new();
+    line.push_labelled(label, number);
+    line.push_labelled(other, second);
+    line.push_labelled(last, third);
+    line.push(b"\n");
+    line
+}
+
+#[tactic(auto, unfolding(crate::specs::Lines::one_signed))]
+fn one_signed(label: &[u8], number: i128) -> LineBuffer
+    requires { length label.now ≤ 64 }
+    ensures { result ≡ one_signed label.now number }
+{
+    let mut line = LineBuffer::new();
+    line.push_labelled_signed(label, number);
+    line.push(b"\n");
+    line
+}
+
+#[tactic(auto, unfolding(crate::specs::Lines::two_signed))]
+fn two_signed(label: &[u8], number: &i128, other: &[u8], second: &i128) -> LineBuffer
+    requires label { length label.now ≤ 64 }
+    requires other { length other.now ≤ 64 }
+    ensures { result ≡ two_signed label.now number.now other.now second.now }
+{
+    let mut line = LineBuffer::new();
+    line.push_labelled_signed(label, *number);
+    line.push_labelled_signed(other, *second);
+    line.push(b"\n");
+    line
+}
+
+/// The line of a broken clause.
+pub fn broken_line(broken: &Break) -> LineBuffer
+    ensures { result ≡ broken_line broken.now }
+{
+    match *broken {
+        Break::Tickets { sum } => one_number(b"broken 1 sum ", sum),
+        Break::Demand {
+            piece,
+            paper,
+            count,
+        } => in_piece(b"broken 2 piece ", piece, b" paper ", paper, count),
+        Break::Load {
+            piece,
+            reviewer,
+            count,
+        } => in_piece(b"broken 3 piece ", piece, b" reviewer ", reviewer, count),
+        Break::Group {
+            piece,
+            group,
+            count,
+        } => in_piece(b"broken 4 piece ", piece, b" group ", group, count),
+        Break::Lock { piece, pair } => two_numbers(
+            b"broken 5 piece ",
+            u64::from(piece),
+            b" pair ",
+            u64::from(pair),
+        ),
+        Break::Share {
+            pair,
+            printed,
+            counted,
+        } => three_numbers(
+            b"broken 6 pair ",
+            u64::from(pair),
+            b" printed ",
+            printed,
+            b" counted ",
+            counted,
+        ),
+        Break::Cap { pair } => one_number(b"broken 7 pair ", u64::from(pair)),
+        Break::Below { pair } => one_number(b"broken 8 pair ", u64::from(pair)),
+        Break::NoSuchScore { score } => one_signed(b"broken 9 score ", i128::from(score)),
+        Break::Above { need, room } => two_numbers(b"broken 10 need ", need, b" room ", room),
+        Break::Total {
+            ref printed,
+            ref counted,
+        } => two_signed(b"broken 11 printed ", printed, b" counted ", counted),
+        Break::Bound {
+            ref total,
+            ref bound,
+        } => two_signed(b"broken 12 total ", total, b" bound ", bound),
+        Break::Counted { need, room } => two_numbers(b"broken 13 need ", need, b" room ", room),
+        Break::NotViolated { need, room } => two_numbers(b"broken 14 need ", need, b" room ", room),
+    }
+}
+
+fn in_piece(label: &[u8], piece: u32, what: &[u8], place: u32, count: u32) -> LineBuffer
+    requires label { length label.now ≤ 64 }
+    requires what { length what.now ≤ 64 }
+    ensures { result ≡ three_numbers label.now piece what.now place (codes " count ") count }
+{
+    three_numbers(
+        label,
+        u64::from(piece),
+        what,
+        u64::from(place),
+        b" count ",
+        u64::from(count),
+    )
+}
+
+/// The line of a lottery that meets the rules.
+#[tactic(auto, unfolding(crate::specs::Lines::meets_line, crate::specs::Lines::one_number))]
+pub fn meets_line(pieces: u64) -> LineBuffer
+    ensures { result ≡ meets_line pieces }
+{
+    one_number(b"meets whole pieces ", pieces)
+}

@@ -1,0 +1,17 @@
+pub mod Demands
+pub mod LastLaws
+pub mod IdLaws
+pub mod PaperLaws
+pub mod ReviewerLaws
+pub mod PairLaws
+pub mod RulesLaws
+pub mod ListsLaws
+pub mod AscendLaws
+pub mod AnswerLaws
+pub mod PieceLaws
+pub mod PieceSpells
+pub mod ScanLaws
+pub mod FitLaws
+pub mod LotteryReading
+pub mod LotteryLaws
+pub mod CertificateLaws

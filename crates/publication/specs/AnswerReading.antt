@@ -1,0 +1,78 @@
+-- Reading the text of a lottery of mode whole, line by line, for the rules that it answers.
+use Rattle.std.specs.Prelude.{ℕ, ℤ, List, length, Result, Ok, codes}
+use Rattle.match_rules.specs.declared.answer.Level.TheVariants.{Unasked}
+use Rattle.match_rules.specs.declared.answer.Mode.TheVariants.{Whole}
+use Rattle.match_rules.specs.declared.answer.Prices.{Prices}
+use Rattle.match_rules.specs.declared.answer.Winning.{Winning}
+use Rattle.match_rules.specs.declared.lottery.Piece.{Piece}
+use Rattle.match_rules.specs.declared.rules.TheConstants.{MOST_TICKETS}
+use Rattle.match_rules.specs.Groups.{group_count}
+use Rattle.match_rules.specs.Rules.{RulesValue}
+use Rattle.text_lines.specs.declared.fault.TextFault.{TextFault}
+use Rattle.text_lines.specs.Forms.{fixed, section_at}
+use Rattle.text_lines.specs.Reading.{◌>>=◌, Cursor, due, end_at}
+use Rattle.publication.specs.declared.sizes.Sizes.{Sizes}
+use Rattle.publication.specs.RulesReading.{rules_at}
+use Rattle.publication.specs.AnswerForms.{price_of, share_of, total_of, piece_of}
+
+-- how many papers, groups, reviewers and pairs rules have
+abbrev pub sizes_of : RulesValue → Sizes
+sizes_of rules = record { papers = length rules.papers; groups = group_count rules; reviewers = length rules.reviewers; pairs = length rules.pairs }
+
+-- the lines that say what follows
+unfoldable pub answer_head_at : Cursor → Result (Unit {0} × Cursor) TextFault
+answer_head_at at = do
+  kind ← due (fixed (codes "lottery 1")) at
+  mode ← due (fixed (codes "mode whole")) kind.1
+  due (fixed (codes "threshold none")) mode.1
+
+-- one price for each of a count
+unfoldable pub price_list_at : List ℕ → ℕ → Cursor → Result (List ℤ × Cursor) TextFault
+price_list_at word count at = section_at word count count (λ before. price_of) at
+
+unfoldable pub prices_at : Sizes → Cursor → Result (Prices × Cursor) TextFault
+prices_at sizes at = do
+  papers ← price_list_at (codes "paper-prices") sizes.papers at
+  groups ← price_list_at (codes "group-prices") sizes.groups papers.1
+  reviewers ← price_list_at (codes "reviewer-prices") sizes.reviewers groups.1
+  Ok (record { papers = papers.0; groups = groups.0; reviewers = reviewers.0 }, reviewers.1)
+
+-- the shares, and that there is no cut
+unfoldable pub shares_at : Sizes → Cursor → Result (List ℕ × Cursor) TextFault
+shares_at sizes at = do
+  shares ← section_at (codes "shares") sizes.pairs sizes.pairs (λ before. share_of) at
+  none ← due (fixed (codes "cut none")) shares.1
+  Ok (shares.0, none.1)
+
+unfoldable pub pieces_at : Sizes → Cursor → Result (List Piece × Cursor) TextFault
+pieces_at sizes at = do
+  pieces ← section_at (codes "pieces") 0 MOST_TICKETS (piece_of sizes.pairs) at
+  end ← due (fixed (codes "end lottery")) pieces.1
+  Ok (pieces.0, end.1)
+
+-- the total and the prices
+unfoldable pub worth_at : Sizes → Cursor → Result ((ℤ × Prices) × Cursor) TextFault
+worth_at sizes at = do
+  head ← answer_head_at at
+  total ← due total_of head.1
+  prices ← prices_at sizes total.1
+  Ok ((total.0, prices.0), prices.1)
+
+-- a lottery of mode whole
+abbrev pub winning_of : ℤ × Prices → List ℕ → List Piece → Winning
+winning_of worth shares pieces = record { mode = Whole; level = Unasked; total = worth.0; prices = worth.1; shares = shares; lottery = pieces }
+
+unfoldable pub lottery_at : Sizes → Cursor → Result (Winning × Cursor) TextFault
+lottery_at sizes at = do
+  worth ← worth_at sizes at
+  shares ← shares_at sizes worth.1
+  pieces ← pieces_at sizes shares.1
+  Ok (winning_of worth.0 shares.0 pieces.0, pieces.1)
+
+-- rules and a lottery for them, and nothing behind it
+unfoldable pub certificate_at : Cursor → Result (RulesValue × Winning) TextFault
+certificate_at at = do
+  rules ← rules_at at
+  winning ← lottery_at (sizes_of rules.0) rules.1
+  end ← end_at winning.1
+  Ok (rules.0, winning.0)

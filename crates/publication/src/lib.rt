@@ -1,0 +1,15 @@
+// The texts of rules and of answers: each has one spelling, and is read back from it alone.
+#![tactic(auto)]
+
+mod answer_forms;
+mod answer_text;
+mod certificate;
+mod numbers;
+mod pair_form;
+mod paper_form;
+mod pieces;
+mod reviewer_form;
+mod rules_reading;
+mod sizes;
+
+pub use certificate::{Certificate, ReadRefusal, read_certificate};

@@ -1,0 +1,51 @@
+-- Lines of fixed words, lines of a word and a number, and sections: such a line and so many lines behind it.
+use Rattle.std.specs.Prelude.{ℕ, ℤ, Bool, true, false, ◌&&◌, nat_le, List, [], ◌∷◌, ◌++◌, length, Option, None, Some, Result, Ok, Err, if◌then◌else◌, decimal}
+use Rattle.std.specs.Str.{bytes_eq}
+use Rattle.text_lines.specs.declared.fault.LineCode.{LineCode}
+use Rattle.text_lines.specs.declared.fault.LineCode.TheVariants.{Form, Number, Range}
+use Rattle.text_lines.specs.declared.fault.TextFault.{TextFault}
+use Rattle.text_lines.specs.Fields.{fields, with_spaces, two_of}
+use Rattle.text_lines.specs.Numbers.{is_canonical, is_canonical_signed, value, signed_value, size}
+use Rattle.text_lines.specs.Reading.{◌>>=◌, Cursor, due, items_at}
+use Rattle.text_lines.specs.Texts.{line_of, lines_of}
+
+-- just these words
+abbrev pub fixed : List ℕ → List ℕ → Result (Unit {0}) LineCode
+fixed words line = if bytes_eq line words then Ok tt else Err Form
+
+-- the fields, where there are as many as the form has
+abbrev pub in_form : {A : Type 0} → Option A → Result A LineCode
+in_form None = Err Form
+in_form (Some x) = Ok x
+
+-- a test that has to hold before anything else
+abbrev pub only_if : {A : Type 0} → Bool → LineCode → Result A LineCode → Result A LineCode
+only_if test code then_read = if test then then_read else Err code
+
+-- the number that a field spells, from least to most
+abbrev pub number_from : ℕ → ℕ → List ℕ → Result ℕ LineCode
+number_from least most field = only_if (is_canonical field) Number (only_if (nat_le (value field) most) Range (only_if (nat_le least (value field)) Range (Ok (value field))))
+
+-- the signed number that a field spells, of a magnitude of at most so much
+abbrev pub integer_from : ℕ → List ℕ → Result ℤ LineCode
+integer_from most field = only_if (is_canonical_signed field) Number (only_if (nat_le (size field) most) Range (Ok (signed_value field)))
+
+-- the number of a line which has this word in front of it
+abbrev pub counted_of : List ℕ → ℕ → ℕ → List ℕ × List ℕ → Result ℕ LineCode
+counted_of word least most f = only_if (bytes_eq f.0 word) Form (number_from least most f.1)
+
+unfoldable pub counted : List ℕ → ℕ → ℕ → List ℕ → Result ℕ LineCode
+counted word least most line = in_form (two_of (fields line)) >>= λ f. counted_of word least most f
+
+-- a section: its word with the number of its items, and a line for each
+unfoldable pub section_at : {A : Type 0} → List ℕ → ℕ → ℕ → (List A → List ℕ → Result A LineCode) → Cursor → Result (List A × Cursor) TextFault
+section_at word least most read at = do
+  count ← due (counted word least most) at
+  items_at read count.0 [] count.1
+
+-- the line of a word and a number
+unfoldable pub count_line : List ℕ → ℕ → List ℕ
+count_line word n = with_spaces (word ∷ decimal n ∷ [])
+
+unfoldable pub section_text : {A : Type 0} → List ℕ → (A → List ℕ) → List A → List ℕ
+section_text word spell items = line_of (count_line word (length items)) ++ lines_of spell items
