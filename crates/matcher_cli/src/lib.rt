@@ -4,6 +4,8 @@
 mod lines;
 mod matching;
 mod status;
+#[cfg(test)]
+mod tests;
 
 pub use matching::matcher;
 pub use status::Status;

@@ -13,3 +13,6 @@ mod rules_reading;
 mod sizes;
 
 pub use certificate::{Certificate, ReadRefusal, read_certificate};
+
+#[cfg(test)]
+mod tests;

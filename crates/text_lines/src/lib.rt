@@ -18,3 +18,6 @@ pub use number::{integer_up_to, is_canonical, is_canonical_signed, number_up_to}
 pub use words::{
     CountLine, FixedLine, integer_from, number_from, read_count, read_section, read_words,
 };
+
+#[cfg(test)]
+mod tests;
