@@ -1,6 +1,6 @@
 -- What the rows so far and the records that are left give, from one record to the next.
-use Rattle.std.proofs.Common.{◌≡◌, ◌≢◌, ℕ, zero, suc, ◌+◌, ◌-◌, ◌<◌, ◌≤◌, ◌⊎◌, inl, inr, List, [], ◌∷◌, ◌++◌, length, Option, Some, None, Result, Ok, Err, Bool, true, false, refl, sym, ap, ◌∙◌, subst, arith, length-append, append_assoc, append-nil}
-use Rattle.std.specs.Prelude.{if◌then◌else◌, ◌==◌, ◌&&◌, option_map, MatchOption, OnOk}
+use Rattle.std.proofs.Common.{◌≡◌, ℕ, zero, suc, ◌+◌, ◌-◌, ◌<◌, ◌≤◌, ◌⊎◌, inl, inr, List, [], ◌∷◌, ◌++◌, length, Option, Some, None, Result, Ok, Err, Bool, true, false, refl, sym, ap, ◌∙◌, arith, length-append, append_assoc, append-nil}
+use Rattle.std.specs.Prelude.{◌==◌, ◌&&◌, option_map, MatchOption, OnOk}
 use Rattle.std.specs.Option.{option_map_or}
 use Rattle.std.specs.List.{list_all}
 use Rattle.std.specs.Str.{is_utf8}
@@ -8,12 +8,12 @@ use Rattle.std.proofs.lemmas.Bool.{cases_Bool, eqb-true, ne_eqb, false≢true}
 use Rattle.std.proofs.lemmas.Slice.Eq.{slice_eq-Decides, bytes_eq-Decides}
 use Rattle.csv.specs.Records.{Row, fields_of}
 use Rattle.bid_import.specs.declared.fault.Code.{Code}
-use Rattle.bid_import.specs.declared.fault.Code.TheVariants.{TooMany, NotUtf8}
+use Rattle.bid_import.specs.declared.fault.Code.TheVariants.{TooMany}
 use Rattle.bid_import.specs.declared.fault.ImportFault.{ImportFault}
 use Rattle.bid_import.specs.declared.fault.ImportFault.TheVariants.{Memory, Bad}
-use Rattle.bid_import.specs.Files.{checked, with_row, then_rows, rows_from, is_header, rows_of_records, with_rows, rest_of, Goes, row_in, Adds, IsProgress, rows_of_file, Imports}
+use Rattle.bid_import.specs.Files.{checked, with_row, rows_from, is_header, rows_of_records, with_rows, rest_of, Goes, row_in, Adds, IsProgress, rows_of_file, Imports}
 use Rattle.bid_import.proofs.Streams.{left_records}
-use Rattle.csv.specs.Reading.{strip_bom, records, default_config}
+use Rattle.csv.specs.Reading.{strip_bom}
 use Rattle.csv.specs.declared.parser.State.TheVariants as st
 
 -- what a record of text is to the bytes that it was made of

@@ -1,10 +1,10 @@
 -- The records of a text one after another: each takes a byte or more.
-use Rattle.std.proofs.Common.{◌≡◌, ◌≢◌, ℕ, zero, suc, ◌+◌, ◌<◌, ◌≤◌, List, [], ◌∷◌, ◌++◌, length, Option, Some, None, Bool, true, false, inl, inr, refl, sym, ap, ◌∙◌, subst, arith, add-one}
-use Rattle.std.specs.Prelude.{if◌then◌else◌, ◌==◌, ◌&&◌, ◌||◌, option_map}
+use Rattle.std.proofs.Common.{◌≡◌, ℕ, zero, suc, ◌+◌, ◌<◌, ◌≤◌, List, [], ◌∷◌, ◌++◌, length, Option, Some, None, Bool, true, false, inl, inr, refl, sym, ap, ◌∙◌, arith, add-one}
+use Rattle.std.specs.Prelude.{if◌then◌else◌, ◌==◌, ◌||◌, option_map}
 use Rattle.bid_import.specs.Files.{first_of, first_number, first_row_of}
-use Rattle.std.proofs.lemmas.Bool.{cases_Bool, cases_lt}
-use Rattle.csv.specs.Machine.{Read, next_record, step, ends_at_end, is_end, fields_after, field_after, in_field, start_field, start_record, after_end, ends_with}
-use Rattle.csv.specs.Reading.{records_from, records_next, records, default_config, source_of, ReadRecord, Reached, strip_bom}
+use Rattle.std.proofs.lemmas.Bool.{cases_Bool}
+use Rattle.csv.specs.Machine.{Read, next_record, step, ends_at_end, is_end, fields_after, field_after, in_field, start_field, start_record}
+use Rattle.csv.specs.Reading.{records_from, records_next, default_config, source_of, ReadRecord, Reached, strip_bom}
 use Rattle.csv.specs.declared.reader.Reader.{Reader}
 use Rattle.csv.proofs.ReadFacts.{rows-more, rows-end}
 use Rattle.csv.specs.declared.parser.State.{State}

@@ -4,7 +4,6 @@ use Rattle.std.specs.Borrow.{Bor}
 use Rattle.std.specs.List.{list_all}
 use Rattle.std.specs.declared.alloc.Global.{Global}
 use Rattle.match_rules.specs.Id.{is_institution}
-use Rattle.bid_import.specs.declared.fault.Code.{Code}
 use Rattle.bid_import.specs.declared.fault.Code.TheVariants.{TooMany, BadId}
 use Rattle.bid_import.specs.declared.fault.RowFault.{RowFault}
 use Rattle.bid_import.specs.declared.fault.RowFault.TheVariants.{Memory, Wrong}

@@ -1,5 +1,4 @@
-use Rattle.std.proofs.Common.{◌≡◌, ◌∙◌, refl, sym, ap, Err, false, get_or}
-use Rattle.match_rules.specs.Id.{is_institution}
+use Rattle.std.proofs.Common.{◌≡◌, ◌∙◌, refl, ap, Err}
 use Rattle.match_rules.specs.declared.ids.IdFault.TheVariants.{BadId}
 use Rattle.bid_import.proofs.Names.{one-bad}
 use Rattle.bid_import.proofs.fields.all_institutions.Goals as goal

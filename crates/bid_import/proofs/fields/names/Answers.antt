@@ -1,5 +1,5 @@
 -- Each turn takes the next part between the semicolons.
-use Rattle.std.proofs.Common.{◌≡◌, ◌∙◌, ◌==◌, ◌≤◌, length, sym, ap, refl, arith, lit<, false, true, rules, length-append, ◌∷◌, []}
+use Rattle.std.proofs.Common.{◌≡◌, ◌∙◌, ◌==◌, length, sym, ap, refl, arith, lit<, false, true, rules, length-append, ◌∷◌, []}
 use Rattle.std.specs.Result.{is_ok}
 use Rattle.std.proofs.lemmas.Iterator.Splits.{YieldsList-from_str_split}
 use Rattle.std.proofs.lemmas.Iterator.Consumers.{YieldsList-so_far, YieldsList-turn, YieldsList-end}

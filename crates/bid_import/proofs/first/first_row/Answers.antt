@@ -1,4 +1,4 @@
-use Rattle.std.proofs.Common.{◌∙◌, Some, None, refl}
+use Rattle.std.proofs.Common.{◌∙◌, Some, None}
 use Rattle.csv.specs.Records.{fields_of}
 use Rattle.bid_import.specs.Kinds.{columns_of}
 use Rattle.bid_import.proofs.Streams.{first-is}

@@ -1,6 +1,6 @@
 -- Each turn of the reader takes the next of the records that are left.
-use Rattle.std.proofs.Common.{◌≡◌, ◌∙◌, ℕ, List, [], Some, Bor, sym, ap, refl, inl, inr, arith}
-use Rattle.csv.specs.Reading.{default_config, strip_bom, RowStep}
+use Rattle.std.proofs.Common.{◌∙◌, ℕ, List, [], Some, Bor, ap, refl, inl, inr, arith}
+use Rattle.csv.specs.Reading.{strip_bom}
 use Rattle.csv.specs.Records.{fields_of}
 use Rattle.bid_import.specs.Files.{rows_of_file, rest_of}
 use Rattle.bid_import.proofs.Streams.{stream-more, stream-end, left_records}

@@ -1,5 +1,5 @@
 -- A record is text exactly where each of its fields passes the test.
-use Rattle.std.proofs.Common.{◌≡◌, true, false, sym, ap, ◌∙◌, inl, inr, subst}
+use Rattle.std.proofs.Common.{inl, inr, subst}
 use Rattle.std.specs.List.{list_all}
 use Rattle.std.specs.Str.{is_utf8}
 use Rattle.std.proofs.lemmas.Bool.{cases_Bool, false≢true}
