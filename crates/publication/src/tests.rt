@@ -5,16 +5,21 @@ use match_rules::Answer;
 use std::alloc::{AllocError, Global};
 use std::test::Fail;
 
-const RULES: &str =
-    "rules 1\ntickets 10000\nlimit 1500\npapers 2\np1 1\np2 1\nreviewers 2\nr1 0 1\nr2 0 1\npairs 4\n0 0 1000000 0 7000\n0 1 0 0 7000\n1 0 800000 0 7000\n1 1 500000 0 7000\nend rules\n";
+fn rules() -> &'static str {
+    "rules 1\ntickets 10000\nlimit 1500\npapers 2\np1 1\np2 1\nreviewers 2\nr1 0 1\nr2 0 1\npairs 4\n0 0 1000000 0 7000\n0 1 0 0 7000\n1 0 800000 0 7000\n1 1 500000 0 7000\nend rules\n"
+}
 
-const EVIDENCE: &str =
-    "lottery 1\nmode whole\nthreshold none\ntotal 12900000000\npaper-prices 2\n0\n500000\ngroup-prices 0\nreviewer-prices 2\n300000\n0\nshares 4\n7000\n3000\n3000\n7000\ncut none\n";
+fn evidence() -> &'static str {
+    "lottery 1\nmode whole\nthreshold none\ntotal 12900000000\npaper-prices 2\n0\n500000\ngroup-prices 0\nreviewer-prices 2\n300000\n0\nshares 4\n7000\n3000\n3000\n7000\ncut none\n"
+}
 
-const PIECES: &str = "pieces 2\n7000 0 3\n3000 1 2\nend lottery\n";
+fn pieces() -> &'static str {
+    "pieces 2\n7000 0 3\n3000 1 2\nend lottery\n"
+}
 
-const NOTHING: &str =
-    "rules 1\ntickets 10000\nlimit 1500\npapers 0\nreviewers 0\npairs 0\nend rules\nlottery 1\nmode whole\nthreshold none\ntotal 0\npaper-prices 0\ngroup-prices 0\nreviewer-prices 0\nshares 0\ncut none\npieces 1\n10000\nend lottery\n";
+fn nothing() -> &'static str {
+    "rules 1\ntickets 10000\nlimit 1500\npapers 0\nreviewers 0\npairs 0\nend rules\nlottery 1\nmode whole\nthreshold none\ntotal 0\npaper-prices 0\ngroup-prices 0\nreviewer-prices 0\nshares 0\ncut none\npieces 1\n10000\nend lottery\n"
+}
 
 // What is read of three parts of a text, over a source whose listed reads fail.
 fn read_parts(
@@ -37,7 +42,11 @@ fn refuses(alloc: Global, parts: [&str; 3]) -> Result<bool, AllocError> {
 
 #[test]
 fn a_certificate_is_read(rt: HostRuntime) -> Result<(), Fail> {
-    let read = read_parts(rt.alloc(), [RULES, EVIDENCE, PIECES], Vec::new(rt.alloc()))?;
+    let read = read_parts(
+        rt.alloc(),
+        [rules(), evidence(), pieces()],
+        Vec::new(rt.alloc()),
+    )?;
     let certificate = read.ok().ok_or("it is the text of a certificate")?;
     assert_eq!(rt; certificate.rules.limit(), 1500);
     assert_eq!(rt; certificate.rules.papers().len(), 2);
@@ -57,7 +66,7 @@ fn a_certificate_is_read(rt: HostRuntime) -> Result<(), Fail> {
 
 #[test]
 fn no_papers_at_all(rt: HostRuntime) -> Result<(), Fail> {
-    let read = read_parts(rt.alloc(), [NOTHING, "", ""], Vec::new(rt.alloc()))?;
+    let read = read_parts(rt.alloc(), [nothing(), "", ""], Vec::new(rt.alloc()))?;
     assert!(rt; read.is_ok());
     Ok(())
 }
@@ -70,15 +79,15 @@ fn other_bytes_are_refused(rt: HostRuntime) -> Result<(), Fail> {
     let exchanged = "pieces 2\n3000 1 2\n7000 0 3\nend lottery\n";
     let unknown_pair = "pieces 2\n7000 0 4\n3000 1 2\nend lottery\n";
     let carriage_return = "pieces 2\r\n7000 0 3\r\n3000 1 2\r\nend lottery\r\n";
-    assert!(rt; refuses(alloc, [RULES, EVIDENCE, without_feed])?);
-    assert!(rt; refuses(alloc, [RULES, EVIDENCE, leading_zero])?);
-    assert!(rt; refuses(alloc, [RULES, EVIDENCE, exchanged])?);
-    assert!(rt; refuses(alloc, [RULES, EVIDENCE, unknown_pair])?);
-    assert!(rt; refuses(alloc, [RULES, EVIDENCE, carriage_return])?);
-    assert!(rt; refuses(alloc, [NOTHING, "\n", ""])?);
-    assert!(rt; refuses(alloc, [NOTHING, NOTHING, ""])?);
-    assert!(rt; refuses(alloc, [RULES, "lottery 1\nmode fair\n", ""])?);
-    assert!(rt; refuses(alloc, [RULES, "infeasible 1\n", ""])?);
+    assert!(rt; refuses(alloc, [rules(), evidence(), without_feed])?);
+    assert!(rt; refuses(alloc, [rules(), evidence(), leading_zero])?);
+    assert!(rt; refuses(alloc, [rules(), evidence(), exchanged])?);
+    assert!(rt; refuses(alloc, [rules(), evidence(), unknown_pair])?);
+    assert!(rt; refuses(alloc, [rules(), evidence(), carriage_return])?);
+    assert!(rt; refuses(alloc, [nothing(), "\n", ""])?);
+    assert!(rt; refuses(alloc, [nothing(), nothing(), ""])?);
+    assert!(rt; refuses(alloc, [rules(), "lottery 1\nmode fair\n", ""])?);
+    assert!(rt; refuses(alloc, [rules(), "infeasible 1\n", ""])?);
     assert!(rt; refuses(alloc, ["", "", ""])?);
     Ok(())
 }
@@ -86,11 +95,11 @@ fn other_bytes_are_refused(rt: HostRuntime) -> Result<(), Fail> {
 #[test]
 fn a_read_that_fails(rt: HostRuntime) -> Result<(), Fail> {
     let alloc = rt.alloc();
-    let first = read_parts(alloc, [NOTHING, "", ""], vec![in alloc; 1]?)?;
+    let first = read_parts(alloc, [nothing(), "", ""], vec![in alloc; 1]?)?;
     assert!(rt; matches!(first, Err(ReadRefusal::ReadFault)));
-    let last = read_parts(alloc, [NOTHING, "", ""], vec![in alloc; 2]?)?;
+    let last = read_parts(alloc, [nothing(), "", ""], vec![in alloc; 2]?)?;
     assert!(rt; matches!(last, Err(ReadRefusal::ReadFault)));
-    let later = read_parts(alloc, [NOTHING, "", ""], vec![in alloc; 3]?)?;
+    let later = read_parts(alloc, [nothing(), "", ""], vec![in alloc; 3]?)?;
     assert!(rt; later.is_ok());
     Ok(())
 }

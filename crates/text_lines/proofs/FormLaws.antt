@@ -1,25 +1,24 @@
 -- Lines of fixed words, lines of a word and a number, and sections: what is read is spelled so, and read again.
-use Rattle.std.proofs.Common.{◌≡◌, ℕ, zero, suc, ◌+◌, ◌^◌, ◌<◌, ◌≤◌, Bool, true, false, cond, eqb, ltb, leb, List, [], ◌∷◌, ◌++◌, length, Option, None, Some, Result, Ok, Err, ℤ, refl, sym, ap, subst, ◌∙◌, append_assoc, arith, lit<}
+use Rattle.std.proofs.Common.{◌≡◌, ℕ, ◌^◌, ◌<◌, ◌≤◌, true, leb, List, [], ◌∷◌, ◌++◌, length, Option, None, Some, Result, Ok, ℤ, refl, sym, ap, ◌∙◌, append_assoc, arith}
 use Rattle.std.specs.Prelude.{decimal, nat_abs}
 use Rattle.std.specs.Fmt.{signed_decimal}
 use lib.Signed.{mag}
 use Rattle.std.specs.Str.{bytes_eq}
-use Rattle.std.proofs.lemmas.Bool.{leb-true, le-leb, eqb-true, cases_Bool}
+use Rattle.std.proofs.lemmas.Bool.{leb-true, le-leb}
 use Rattle.std.proofs.lemmas.Slice.Eq.{bytes_eq-Decides}
-use Rattle.text_lines.specs.declared.lines.TheConstants.{LONGEST_LINE}
 use Rattle.text_lines.specs.declared.fault.LineCode.{LineCode}
 use Rattle.text_lines.specs.declared.fault.LineCode.TheVariants.{Form, Number, Range}
 use Rattle.text_lines.specs.declared.fault.TextFault.{TextFault}
 use Rattle.text_lines.specs.declared.fault.ReadError.{ReadError}
-use Rattle.text_lines.specs.Fields.{fields, with_spaces, one_of, two_of, three_of, four_of, five_of}
+use Rattle.text_lines.specs.Fields.{fields, with_spaces, two_of, three_of, five_of}
 use Rattle.text_lines.specs.Forms.{fixed, in_form, only_if, integer_from, number_from, counted, counted_of, section_at, count_line, section_text}
 use Rattle.text_lines.specs.Numbers.{is_canonical, is_canonical_signed, value, signed_value, size}
-use Rattle.text_lines.specs.Reading.{◌>>=◌, Cursor, Gives, Fails, due, items_at, following}
+use Rattle.text_lines.specs.Reading.{◌>>=◌, Cursor, Gives, due, items_at, following}
 use Rattle.text_lines.specs.Texts.{line_of, lines_of, AllAlong}
 use Rattle.text_lines.proofs.NumberLaws.{number_takes, number_again, signed_takes, signed_again}
-use Rattle.text_lines.proofs.TextLaws.{Spells, IsLine, TakesItems, bind_ok, ok_is, guard_ok, due_takes, due_again, items_takes, items_again}
+use Rattle.text_lines.proofs.TextLaws.{Spells, IsLine, bind_ok, ok_is, guard_ok, due_takes, due_again, items_takes, items_again}
 use Rattle.text_lines.proofs.FieldLaws.{with_spaces-fields}
-use Rattle.text_lines.proofs.WordLaws.{IsWord, AllWords, fields-with_spaces, words_line, number_word, number_short, length-with_spaces_one, length-with_spaces_more}
+use Rattle.text_lines.proofs.WordLaws.{IsWord, fields-with_spaces, words_line, number_word, number_short, length-with_spaces_one, length-with_spaces_more}
 
 -- what follows a step that was taken
 pub gives_after : {X Y A : Type 0} (view : X → Y) (r : Result X ReadError) (now : Cursor) (first : Result A TextFault) (f : A → Result (Y × Cursor) TextFault) (a : A) → first ≡ Ok a → Gives view r now (f a) → Gives view r now (first >>= f)

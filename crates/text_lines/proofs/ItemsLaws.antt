@@ -1,12 +1,10 @@
 -- Many lines of one form, as a loop reads them, and the end of a text.
-use Rattle.std.proofs.Common.{◌≡◌, ℕ, zero, suc, ◌+◌, ◌-◌, ◌<◌, ◌≤◌, Bool, true, false, eqb, List, [], ◌∷◌, ◌++◌, length, Result, Ok, Err, refl, sym, ap, subst, ◌∙◌, append_assoc, arith}
-use Rattle.std.proofs.lemmas.Bool.{eq-eqb, ne_eqb}
-use Rattle.std.proofs.lemmas.List.{nil_from_length}
+use Rattle.std.proofs.Common.{◌≡◌, ℕ, suc, ◌+◌, ◌-◌, ◌<◌, ◌≤◌, false, eqb, List, [], ◌∷◌, ◌++◌, length, Result, Ok, Err, refl, sym, ap, subst, append_assoc, arith}
+use Rattle.std.proofs.lemmas.Bool.{ne_eqb}
 use Rattle.text_lines.specs.declared.fault.LineCode.{LineCode}
-use Rattle.text_lines.specs.declared.fault.TextFault.{TextFault}
 use Rattle.text_lines.specs.declared.fault.TextFault.TheVariants.{Trailing}
 use Rattle.text_lines.specs.declared.fault.ReadError.{ReadError}
-use Rattle.text_lines.specs.Reading.{◌>>=◌, Cursor, Fails, AllFrom, due, items_at, end_at}
+use Rattle.text_lines.specs.Reading.{Cursor, Fails, AllFrom, due, items_at, end_at}
 use Rattle.text_lines.proofs.DueLaws.{bind_fails}
 
 pub items_go_on : {A : Type 0} (read : List A → List ℕ → Result A LineCode) (count i : ℕ) (before : List A) (at : Cursor) (x : A) (rest : Cursor) → i < count → due (read before) at ≡ Ok (x, rest)

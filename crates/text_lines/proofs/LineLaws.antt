@@ -1,7 +1,7 @@
 -- The line that is due, found piece by piece.
-use Rattle.std.proofs.Common.{◌≡◌, ℕ, zero, suc, ◌+◌, ◌-◌, ◌^◌, ◌<◌, ◌≤◌, Bool, true, false, cond, eqb, ltb, List, [], ◌∷◌, ◌++◌, length, get_or, take, drop, Result, Ok, Err, inl, inr, refl, sym, ap, subst, ◌∙◌, append_assoc, arith, rules}
+use Rattle.std.proofs.Common.{◌≡◌, ℕ, ◌+◌, ◌-◌, ◌<◌, ◌≤◌, Bool, true, false, cond, eqb, ltb, List, [], ◌++◌, length, take, drop, Ok, Err, inl, inr, refl, sym, ap, ◌∙◌, append_assoc, arith}
 use Rattle.std.specs.Prelude.{slice_range}
-use Rattle.std.specs.List.{position_or_len, prefix_len, before_first, after_first}
+use Rattle.std.specs.List.{position_or_len}
 use Rattle.std.proofs.lemmas.Bool.{eq-eqb, ne_eqb, ltb-true, ltb-false, le-ltb, lt-ltb, cases_eq}
 use Rattle.std.proofs.lemmas.List.{append-nil, drop-take, drop-drop, drop_at, drop_all, take_all, drop-append-le, take-append-le, length-append, length-take}
 use Rattle.std.proofs.lemmas.List.Sums.{prefix_len-le-length}
@@ -12,7 +12,7 @@ use Rattle.text_lines.specs.declared.fault.LineCode.TheVariants.{TooLong}
 use Rattle.text_lines.specs.declared.fault.TextFault.TheVariants.{Truncated, BadLine}
 use Rattle.text_lines.specs.declared.fault.ReadError.{ReadError}
 use Rattle.text_lines.specs.declared.fault.ReadError.TheVariants as errors
-use Rattle.text_lines.specs.Reading.{Cursor, LinesValue, Fails, IsPieceError, line_at, is_feed, following}
+use Rattle.text_lines.specs.Reading.{LinesValue, Fails, IsPieceError, line_at, is_feed, following}
 
 -- a part of a part
 pub rest_is : (xs : List ℕ) (i j n : ℕ) → i + n ≤ j → slice_range xs (i + n) j ≡ drop n (slice_range xs i j)

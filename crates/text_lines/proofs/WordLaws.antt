@@ -1,14 +1,14 @@
 -- Fields without spaces and line feeds, and the lines that they make.
-use Rattle.std.proofs.Common.{◌≡◌, ℕ, zero, suc, ◌+◌, ◌-◌, ◌^◌, ◌<◌, ◌≤◌, ◌≢◌, Bool, true, false, cond, not, eqb, ltb, List, [], ◌∷◌, ◌++◌, length, get_or, ℤ, pos, negsuc, refl, sym, ap, subst, ◌∙◌, append_assoc, arith, lit<}
+use Rattle.std.proofs.Common.{◌≡◌, ℕ, zero, suc, ◌+◌, ◌^◌, ◌<◌, ◌≤◌, ◌≢◌, true, false, not, eqb, ltb, List, [], ◌∷◌, ◌++◌, length, get_or, ℤ, pos, negsuc, refl, ap, ◌∙◌, arith, lit<}
 use Rattle.std.specs.Prelude.{decimal}
 use Rattle.std.specs.Fmt.{signed_decimal}
 use Rattle.std.specs.Int.{IsInRange}
 use Rattle.std.specs.List.{list_all}
 use Rattle.std.proofs.lemmas.List.Sums.{AllPass-from_list_all}
-use Rattle.std.specs.Str.{IsUtf8, all_ascii_digits, NoCharPasses}
+use Rattle.std.specs.Str.{IsUtf8, NoCharPasses}
 use Rattle.std.proofs.lemmas.Bool.{ne_eqb, ltb-true, and_parts, not-true}
 use Rattle.std.proofs.lemmas.Fmt.{digits_decimal, IsAscii-decimal, IsAscii-signed, length-decimal-le, length_signed_le}
-use Rattle.std.proofs.lemmas.List.{append-nil, length-append}
+use Rattle.std.proofs.lemmas.List.{length-append}
 use Rattle.std.proofs.lemmas.List.Splits.{slice_split_none, slice_split_at}
 use Rattle.std.proofs.lemmas.Str.{IsUtf8-append, IsUtf8-from_ascii, IsUtf8-nil}
 use Rattle.std.proofs.lemmas.Str.Ascii.{IsAscii-cons, IsAscii-nil, IsAscii-from_all}
@@ -17,7 +17,6 @@ use Rattle.std.proofs.lemmas.Str.Pattern.{NoCharPasses-char}
 use lib.Signed.{mag}
 use Rattle.text_lines.specs.declared.lines.TheConstants.{LONGEST_LINE}
 use Rattle.text_lines.specs.Fields.{is_space, fields, with_spaces}
-use Rattle.text_lines.specs.Reading.{is_feed}
 use Rattle.text_lines.proofs.LineLaws.{IsPlain}
 use Rattle.text_lines.proofs.NumberLaws.{numerals}
 use Rattle.text_lines.proofs.TextLaws.{IsLine}

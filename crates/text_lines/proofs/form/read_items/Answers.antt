@@ -1,7 +1,7 @@
-use Rattle.std.proofs.Common.{◌≡◌, ℕ, ◌+◌, ◌-◌, ◌≤◌, List, [], ◌∷◌, ◌++◌, length, Result, Ok, refl, sym, ap, ◌∙◌, arith}
+use Rattle.std.proofs.Common.{◌≡◌, ℕ, ◌+◌, [], ◌∷◌, ◌++◌, Ok, ap, ◌∙◌, arith}
 use Rattle.std.proofs.lemmas.Result.{err_from_is_err_and}
 use Rattle.std.proofs.lemmas.List.{length_push}
-use Rattle.text_lines.specs.Reading.{Cursor, Fails, AllFrom, cursor, due, items_at}
+use Rattle.text_lines.specs.Reading.{Fails, cursor, due}
 use Rattle.text_lines.proofs.ItemsLaws.{items_go_on, items_fail, items_done, AllFrom-push}
 use Rattle.text_lines.proofs.form.read_items.Goals as goal
 

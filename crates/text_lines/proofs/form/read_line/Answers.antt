@@ -1,6 +1,6 @@
-use Rattle.std.proofs.Common.{◌≡◌, ℕ, List, Result, Ok, refl, sym, ap, ◌∙◌}
+use Rattle.std.proofs.Common.{◌≡◌, Ok}
 use Rattle.std.proofs.lemmas.Result.{err_from_is_err_and}
-use Rattle.text_lines.specs.Reading.{Cursor, due, line_at, cursor}
+use Rattle.text_lines.specs.Reading.{line_at, cursor}
 use Rattle.text_lines.proofs.DueLaws.{due_fails, due_ok, due_bad, due_no_text}
 use Rattle.text_lines.proofs.form.read_line.Goals as goal
 

@@ -1,4 +1,4 @@
-use Rattle.std.proofs.Common.{◌++◌, append_assoc, refl}
+use Rattle.std.proofs.Common.{append_assoc, refl}
 use Rattle.text_lines.specs.Labels.{labelled}
 use Rattle.text_lines.proofs.line_buffer.LineBuffer.push_labelled.Goals as goal
 
