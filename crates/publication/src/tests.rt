@@ -77,35 +77,69 @@ fn no_papers_at_all(rt: HostRuntime) -> Result<(), Fail> {
     Ok(())
 }
 
-#[test]
-fn other_bytes_are_refused(rt: HostRuntime) -> Result<(), Fail> {
-    let alloc = rt.alloc();
-    let without_feed = "pieces 2\n7000 0 3\n3000 1 2\nend lottery";
-    let leading_zero = "pieces 2\n07000 0 3\n3000 1 2\nend lottery\n";
-    let exchanged = "pieces 2\n3000 1 2\n7000 0 3\nend lottery\n";
-    let unknown_pair = "pieces 2\n7000 0 4\n3000 1 2\nend lottery\n";
-    let carriage_return = "pieces 2\r\n7000 0 3\r\n3000 1 2\r\nend lottery\r\n";
-    assert!(rt; refuses(alloc, rules(), evidence(), without_feed)?);
-    assert!(rt; refuses(alloc, rules(), evidence(), leading_zero)?);
-    assert!(rt; refuses(alloc, rules(), evidence(), exchanged)?);
-    assert!(rt; refuses(alloc, rules(), evidence(), unknown_pair)?);
-    assert!(rt; refuses(alloc, rules(), evidence(), carriage_return)?);
-    assert!(rt; refuses(alloc, nothing(), "\n", "")?);
-    assert!(rt; refuses(alloc, nothing(), nothing(), "")?);
-    assert!(rt; refuses(alloc, rules(), "lottery 1\nmode fair\n", "")?);
-    assert!(rt; refuses(alloc, rules(), "infeasible 1\n", "")?);
-    assert!(rt; refuses(alloc, "", "", "")?);
-    Ok(())
+// Whether each of these texts, in three parts, is refused.
+fn refuses_all(alloc: Global, texts: &[(&str, &str, &str)]) -> Result<bool, AllocError> {
+    for text in texts {
+        if !refuses(alloc, text.0, text.1, text.2)? {
+            return Ok(false);
+        }
+    }
+    Ok(true)
 }
 
 #[test]
-fn a_read_that_fails(rt: HostRuntime) -> Result<(), Fail> {
-    let alloc = rt.alloc();
-    let first = read_parts(alloc, nothing(), "", "", vec![in alloc; 1]?)?;
-    assert!(rt; matches!(first, Err(ReadRefusal::ReadFault)));
-    let last = read_parts(alloc, nothing(), "", "", vec![in alloc; 2]?)?;
-    assert!(rt; matches!(last, Err(ReadRefusal::ReadFault)));
-    let later = read_parts(alloc, nothing(), "", "", vec![in alloc; 3]?)?;
-    assert!(rt; later.is_ok());
+fn other_bytes_are_refused(rt: HostRuntime) -> Result<(), Fail> {
+    let texts = [
+        (
+            rules(),
+            evidence(),
+            "pieces 2\n7000 0 3\n3000 1 2\nend lottery",
+        ),
+        (
+            rules(),
+            evidence(),
+            "pieces 2\n07000 0 3\n3000 1 2\nend lottery\n",
+        ),
+        (
+            rules(),
+            evidence(),
+            "pieces 2\n3000 1 2\n7000 0 3\nend lottery\n",
+        ),
+        (
+            rules(),
+            evidence(),
+            "pieces 2\n7000 0 4\n3000 1 2\nend lottery\n",
+        ),
+        (
+            rules(),
+            evidence(),
+            "pieces 1\r\n10000 0 3\r\nend lottery\r\n",
+        ),
+        (nothing(), "\n", ""),
+        (nothing(), nothing(), ""),
+        (rules(), "lottery 1\nmode fair\n", ""),
+        (rules(), "infeasible 1\n", ""),
+        ("", "", ""),
+    ];
+    assert!(rt; refuses_all(rt.alloc(), &texts)?);
+    Ok(())
+}
+
+// How a read ends whose call of this number fails.
+fn ending(alloc: Global, number: u64) -> Result<&'static str, AllocError> {
+    let mut fails = Vec::new(alloc);
+    fails.push(number)?;
+    match read_parts(alloc, nothing(), "", "", fails)? {
+        Ok(_certificate) => Ok("read"),
+        Err(ReadRefusal::ReadFault) => Ok("fault"),
+        Err(_) => Ok("other"),
+    }
+}
+
+#[test]
+fn a_read_that_fails_is_told(rt: HostRuntime) -> Result<(), Fail> {
+    assert_eq!(rt; ending(rt.alloc(), 1)?, "fault");
+    assert_eq!(rt; ending(rt.alloc(), 2)?, "fault");
+    assert_eq!(rt; ending(rt.alloc(), 3)?, "read");
     Ok(())
 }
