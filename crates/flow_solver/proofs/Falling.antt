@@ -1,5 +1,5 @@
 -- The state once the potentials of the settled nodes have fallen.
-use Rattle.std.proofs.Common.{◌≡◌, ◌≢◌, ℕ, ◌-◌, ◌*◌, ◌<◌, ◌≤◌, Bool, true, false, List, length, refl, ap, ◌∙◌, arith, inl, inr}
+use Rattle.std.proofs.Common.{subst, ◌≡◌, ◌≢◌, ℕ, ◌-◌, ◌*◌, ◌<◌, ◌≤◌, Bool, true, false, List, length, refl, ap, ◌∙◌, arith, inl, inr}
 use Rattle.std.specs.Prelude.{ℤ, pos, ◌+ℤ◌, ◌-ℤ◌, ◌≤ℤ◌, ◌<ℤ◌, slice_index}
 use Rattle.std.specs.declared.cmp.Reverse.{Reverse}
 use Rattle.std.proofs.lemmas.Int.{ints}
@@ -11,7 +11,7 @@ use Rattle.flow_solver.specs.Step.{start_of, end_of, left_on, step_reduced}
 use Rattle.flow_solver.specs.State.{IsWithin, IsState, AreCalm, AreFallen, excess_at}
 use Rattle.flow_solver.specs.Search.{distance_at, reach_at, is_settled, IsSearchOf}
 use Rattle.flow_solver.specs.Way.{IsWay}
-use Rattle.flow_solver.proofs.Searches.{IsStateOf, step_not_negative}
+use Rattle.flow_solver.proofs.Searches.{IsStateOf, step_not_negative, settled_apart}
 use Rattle.flow_solver.proofs.Settling.{tree_short}
 use Rattle.flow_solver.proofs.Bounds.{start_in, end_in}
 
@@ -121,3 +121,22 @@ module _ (net : NetworkValue) (state : State) (source node : ℕ) (tree reaches 
         narrow = λ i above b. (is_tree.reaches i above b).narrow;
         apart = is_tree.apart;
       }
+
+-- what fell on the tree fell everywhere, since no other node is nearer than the last one
+pub AreFallen-from_tree : (net : NetworkValue) (state : State) (source node : ℕ) (tree reaches : List Reach) (distances : List ℕ) (settled : List Bool) (waiting : List (Reverse (ℕ × ℕ)))
+    → IsSearchOf net state source node tree reaches distances settled waiting → length state.potentials.items ≡ net.nodes → (potentials : List ℤ) → length potentials ≡ length state.potentials.items
+    → ((i : ℕ) → i < length tree → potential_at potentials (reach_at tree i).node ≡ potential_at state.potentials.items (reach_at tree i).node -ℤ pos (distance_at distances node - distance_at distances (reach_at tree i).node))
+    → ((v : ℕ) → ((i : ℕ) → i < length tree → (reach_at tree i).node ≢ v) → potential_at potentials v ≡ potential_at state.potentials.items v)
+    → AreFallen state.potentials.items potentials distances (distance_at distances node)
+AreFallen-from_tree net state source node tree reaches distances settled waiting search potentials_long potentials long fallen rest = record {
+  long = long;
+  each = λ v b. elim (cases_Bool (is_settled settled v)) [
+    | inl s ↦
+        let place = search.is_tree.places v s in
+        subst (λ x. potential_at potentials x ≡ potential_at state.potentials.items x -ℤ pos (distance_at distances node - distance_at distances x)) place.2 (fallen place.0 place.1)
+    | inr uns ↦
+        let far = search.further v (omega (arith, b, potentials_long)) uns in
+        let same = rest v (λ i i_in. settled_apart settled (reach_at tree i).node v (search.is_tree.are_settled i i_in) uns) in
+        omega (arith, ints, far, same)
+  ];
+}

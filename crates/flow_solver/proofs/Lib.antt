@@ -1,3 +1,4 @@
+pub mod Falls
 pub mod Bounds
 pub mod Chains
 pub mod Endings

@@ -11,10 +11,11 @@ use Rattle.match_rules.specs.Sums.{count_below, when}
 use Rattle.bounded_network.specs.Network.{NetworkValue, IsNetwork, arc_at}
 use Rattle.flow_solver.specs.declared.state.State.{State}
 use Rattle.flow_solver.specs.declared.search.Reach.{Reach}
+use Rattle.flow_solver.specs.declared.search.Search.{Search}
 use Rattle.flow_solver.specs.Queue.{Waits}
 use Rattle.flow_solver.specs.Step.{start_of, end_of}
 use Rattle.flow_solver.specs.State.{excess_at}
-use Rattle.flow_solver.specs.Search.{unreached, distance_at, reach_at, is_settled, IsSearchOf, IsRelaxed, IsRelaxedFrom, IsClosed}
+use Rattle.flow_solver.specs.Search.{unreached, distance_at, reach_at, is_settled, IsSearchOf, IsRelaxed, IsRelaxedFrom, IsClosed, IsCleared, IsClearable, IsSearch}
 use Rattle.flow_solver.proofs.Searches.{IsStateOf}
 use Rattle.flow_solver.proofs.Settling.{IsSearchOf-settle}
 use Rattle.flow_solver.proofs.Bounds.{end_in, over_settled_small}
@@ -63,7 +64,7 @@ IsSearchOf-next net state source node tree reaches distances settled waiting wai
     only
     (λ e u waits uns ne. elim (kept e u waits uns) [ inl stays ↦ stays | inr popped ↦ absurd (ne popped.1) ])
 
-all_false : (n v : ℕ) → is_settled (replicate n false) v ≡ false
+pub all_false : (n v : ℕ) → is_settled (replicate n false) v ≡ false
 all_false n v = elim (cases_lt v n) [
   | inl below ↦ get_or-replicate n v false false below
   | inr above ↦ get_or_past (replicate n false) v false (rw (length-replicate n false) above)
@@ -79,24 +80,30 @@ one_settled n settled source b here others =
     let at : g source ≡ 1 = ap (λ t. when t 1) here in
     omega (arith, change, none, at)
 
--- a search that has settled its source alone
-pub IsSearchOf-begin : (net : NetworkValue) (state : State) (source : ℕ) (root : Reach) (reaches : List Reach) (waiting : List (Reverse (ℕ × ℕ)))
-    → source < net.nodes → root.node ≡ source → 0 < root.width → pos root.width ≤ℤ excess_at state.excess.items source → length reaches ≡ net.nodes → ((d v : ℕ) → Waits waiting d v → ⊥)
-    → IsSearchOf net state source source (root ∷ []) reaches (slice_set (replicate net.nodes unreached) source 0) (slice_set (replicate net.nodes false) source true) waiting
-IsSearchOf-begin net state source root reaches waiting source_in root_is some within long none =
+-- a search that has settled its source alone, from a blank one
+pub IsSearchOf-begin : (net : NetworkValue) (state : State) (source : ℕ) (root : Reach) (reaches : List Reach) (blank_distances : List ℕ) (blank_settled : List Bool) (waiting : List (Reverse (ℕ × ℕ)))
+    → source < net.nodes → root.node ≡ source → 0 < root.width → pos root.width ≤ℤ excess_at state.excess.items source → length reaches ≡ net.nodes
+    → length blank_distances ≡ net.nodes → length blank_settled ≡ net.nodes → ((v : ℕ) → v < net.nodes → IsCleared blank_distances blank_settled v)
+    → ((d v : ℕ) → Waits waiting d v → ⊥)
+    → IsSearchOf net state source source (root ∷ []) reaches (slice_set blank_distances source 0) (slice_set blank_settled source true) waiting
+IsSearchOf-begin net state source root reaches blank_distances blank_settled waiting source_in root_is some within long distances_long settled_long cleared none =
     let n : ℕ = net.nodes in
-    let distances : List ℕ = slice_set (replicate n unreached) source 0 in
-    let settled : List Bool = slice_set (replicate n false) source true in
-    let d_in : source < length (replicate n unreached) = rw (length-replicate n unreached) source_in in
-    let s_in : source < length (replicate n false) = rw (length-replicate n false) source_in in
-    let zero_at : distance_at distances source ≡ 0 = get_or-set_same (replicate n unreached) source 0 0 d_in in
-    let far : (v : ℕ) → v < n → v ≢ source → distance_at distances v ≡ unreached = λ v v_in ne. get_or-set_other (replicate n unreached) source v 0 0 ne ∙ get_or-replicate n v unreached 0 v_in in
-    let here : is_settled settled source ≡ true = get_or-set_same (replicate n false) source true false s_in in
-    let others : (v : ℕ) → v ≢ source → is_settled settled v ≡ false = λ v ne. get_or-set_other (replicate n false) source v true false ne ∙ all_false n v in
+    let distances : List ℕ = slice_set blank_distances source 0 in
+    let settled : List Bool = slice_set blank_settled source true in
+    let d_in : source < length blank_distances = omega (arith, distances_long, source_in) in
+    let s_in : source < length blank_settled = omega (arith, settled_long, source_in) in
+    let zero_at : distance_at distances source ≡ 0 = get_or-set_same blank_distances source 0 0 d_in in
+    let far : (v : ℕ) → v < n → v ≢ source → unreached ≤ distance_at distances v = λ v v_in ne. rw (get_or-set_other blank_distances source v 0 0 ne) (cleared v v_in).far in
+    let all_unsettled : (v : ℕ) → is_settled blank_settled v ≡ false = λ v. elim (cases_lt v n) [
+      | inl below ↦ (cleared v below).unsettled
+      | inr above ↦ get_or_past blank_settled v false (omega (arith, settled_long, above))
+    ] in
+    let here : is_settled settled source ≡ true = get_or-set_same blank_settled source true false s_in in
+    let others : (v : ℕ) → v ≢ source → is_settled settled v ≡ false = λ v ne. get_or-set_other blank_settled source v true false ne ∙ all_unsettled v in
     let only : (v : ℕ) → is_settled settled v ≡ true → v ≡ source = λ v s. elim (cases_eq v source) [ inl e ↦ e | inr ne ↦ absurd (both_ways (is_settled settled v) (others v ne) s) ] in
     record {
       is_tree = record {
-        settled_long = length-set (replicate n false) source true ∙ length-replicate n false;
+        settled_long = length-set blank_settled source true ∙ settled_long;
         counted = one_settled n settled source source_in here others;
         some = omega arith;
         root = root_is;
@@ -105,11 +112,13 @@ IsSearchOf-begin net state source root reaches waiting source_in root_is some wi
         root_some = some;
         nodes = λ i b. let e : i ≡ 0 = omega arith in rw (e, root_is) source_in;
         are_settled = λ i b. let e : i ≡ 0 = omega arith in rw (e, root_is) here;
+        places = λ v s. (0, omega arith, root_is ∙ sym (only v s));
+        separate = λ i j less b. absurd (omega arith);
         reaches = λ i above b. absurd (omega arith);
         apart = λ i j above less b. absurd (omega arith);
         near = λ u v su sv. rw (only u su, only v sv) (omega (arith, ints));
       };
-      distances_long = length-set (replicate n unreached) source 0 ∙ length-replicate n unreached;
+      distances_long = length-set blank_distances source 0 ∙ distances_long;
       reaches_long = long;
       node_in = source_in;
       node_settled = here;
@@ -128,3 +137,38 @@ IsSearchOf-begin net state source root reaches waiting source_in root_is some wi
       relaxed = λ v s ne. absurd (ne (only v s));
       calm = λ v s ne. absurd (ne (only v s));
     }
+
+-- after a search, every node that is reached stands in the tree or waits
+pub IsClearable-from_search : (net : NetworkValue) (state : State) (search : Search) → IsSearch net state search → IsClearable net search
+IsClearable-from_search net state search kept = record {
+  distances_long = kept.distances_long;
+  reaches_long = kept.reaches_long;
+  settled_long = kept.is_tree.settled_long;
+  nodes = kept.is_tree.nodes;
+  queued = λ d v waits. (kept.queued d v waits).0;
+  covered = λ v b. elim (cases_Bool (is_settled search.settled.items v)) [
+    | inl s ↦ inr (inl (kept.is_tree.places v s))
+    | inr uns ↦ elim (cases_lt (distance_at search.distances.items v) unreached) [
+      | inl reached ↦ inr (inr (distance_at search.distances.items v, kept.waits v b uns reached))
+      | inr far ↦ inl (record { far = far; unsettled = uns })
+    ]
+  ];
+}
+
+IsCleared-forget-here : (distances : List ℕ) (settled : List Bool) (node : ℕ) → node < length distances → node < length settled → (v : ℕ) → v ≡ node → IsCleared (slice_set distances node unreached) (slice_set settled node false) v
+IsCleared-forget-here distances settled node d_in s_in v e = record {
+  far = rw (e, get_or-set_same distances node unreached 0 d_in) (omega arith);
+  unsettled = rw e (get_or-set_same settled node false false s_in);
+}
+
+-- a cleared node stays cleared as another is
+pub IsCleared-forget : (distances : List ℕ) (settled : List Bool) (node : ℕ) → node < length distances → node < length settled
+    → (v : ℕ) → ((v ≡ node) ⊎ IsCleared distances settled v) → IsCleared (slice_set distances node unreached) (slice_set settled node false) v
+IsCleared-forget distances settled node d_in s_in v (inl e) = IsCleared-forget-here distances settled node d_in s_in v e
+IsCleared-forget distances settled node d_in s_in v (inr was) = elim (cases_eq v node) [
+  | inl e ↦ IsCleared-forget-here distances settled node d_in s_in v e
+  | inr ne ↦ record {
+    far = rw (get_or-set_other distances node v unreached 0 ne) was.far;
+    unsettled = get_or-set_other settled node v false false ne ∙ was.unsettled;
+  }
+]

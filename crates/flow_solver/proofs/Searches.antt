@@ -95,6 +95,8 @@ module _ (net : NetworkValue) (state : State) (old new : List ℕ) (w d : ℕ) (
         root_some = is_tree.root_some;
         nodes = is_tree.nodes;
         are_settled = is_tree.are_settled;
+        places = is_tree.places;
+        separate = is_tree.separate;
         reaches = λ i some b.
             let r = is_tree.reaches i some b in
             IsReach-lower tree i (reach_at tree i) (reach_at tree i).node (far i b) (far (reach_at tree i).from (omega (arith, r.from))) r;

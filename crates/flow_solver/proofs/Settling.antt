@@ -152,6 +152,17 @@ module _ (net : NetworkValue) (state : State) (source : ℕ) (tree : List Reach)
           | inl old ↦ rw (old.1, marked-other settled v in_settled (reach_at tree i).node (settled_apart settled (reach_at tree i).node v (is_tree.are_settled i old.0) unsettled)) (is_tree.are_settled i old.0)
           | inr new ↦ rw (new.1, reached.node) (marked-here settled v in_settled)
         ];
+        places = λ u s. elim (marked-cases settled v in_settled u s) [
+          | inl e ↦ let at : (reach_at tree' (length tree)).node ≡ u = rw (grown-new tree r, reached.node) (sym e) in (length tree, omega (arith, long), at)
+          | inr old ↦
+              let was = is_tree.places u old.1 in
+              let at : (reach_at tree' was.0).node ≡ u = rw (grown-old tree r was.0 was.1) was.2 in
+              (was.0, omega (arith, long, was.1), at)
+        ];
+        separate = λ i j less b. elim (grown-cases tree r j b) [
+          | inl old ↦ rw (old.1, grown-old tree r i (omega arith)) (is_tree.separate i j less old.0)
+          | inr new ↦ rw (new.1, grown-old tree r i (omega arith), reached.node) (settled_apart settled (reach_at tree i).node v (is_tree.are_settled i (omega arith)) unsettled)
+        ];
         reaches = λ i some b. elim (grown-cases tree r i b) [
           | inl old ↦
               let was = is_tree.reaches i some old.0 in

@@ -1,5 +1,5 @@
 -- The search for the nearest node that lacks something, by reduced costs.
-use Rattle.std.specs.Prelude.{ℕ, ◌≡◌, ◌≢◌, ◌-◌, ◌*◌, ◌<◌, ◌≤◌, Bool, true, false, List, length, slice_index, slice_index_or, ℤ, pos, ◌+ℤ◌, ◌≤ℤ◌, ◌<ℤ◌}
+use Rattle.std.specs.Prelude.{ℕ, ◌≡◌, ◌≢◌, ◌-◌, ◌*◌, ◌<◌, ◌≤◌, ◌⊎◌, Bool, true, false, List, [], length, slice_index, slice_index_or, ℤ, pos, ◌+ℤ◌, ◌≤ℤ◌, ◌<ℤ◌}
 use Rattle.std.specs.BinaryHeap.{heap_items}
 use Rattle.std.specs.declared.cmp.Reverse.{Reverse}
 use Rattle.match_rules.specs.Sums.{count_below, when}
@@ -64,6 +64,8 @@ pub record IsTree (net : NetworkValue) (state : State) (source : ℕ) (tree : Li
   pub root_some : 0 < (reach_at tree 0).width
   pub nodes : (i : ℕ) → i < length tree → (reach_at tree i).node < net.nodes
   pub are_settled : (i : ℕ) → i < length tree → is_settled settled (reach_at tree i).node ≡ true
+  pub places : (v : ℕ) → is_settled settled v ≡ true → (i : ℕ) × (i < length tree) × ((reach_at tree i).node ≡ v)
+  pub separate : (i j : ℕ) → i < j → j < length tree → (reach_at tree i).node ≢ (reach_at tree j).node
   pub reaches : (i : ℕ) → 0 < i → i < length tree → IsReach net state tree distances i (reach_at tree i) (reach_at tree i).node
   pub apart : (i j : ℕ) → 0 < i → i < j → j < length tree → (reach_at tree i).step.arc ≢ (reach_at tree j).step.arc
   pub near : (u v : ℕ) → is_settled settled u ≡ true → is_settled settled v ≡ true → height_at state distances u ≤ℤ (height_at state distances v +ℤ pos (8000000000 * (length tree - 1)))
@@ -107,3 +109,27 @@ pub record IsClosed (net : NetworkValue) (state : State) (source : ℕ) (settled
   pub calm : (v : ℕ) → is_settled settled v ≡ true → pos 0 ≤ℤ excess_at state.excess.items v
   pub closed : (a : ℕ) (forward : Bool) → a < length net.arcs → is_settled settled (start_of (arc_at net a) forward) ≡ true
       → 0 < left_on (arc_at net a) (slice_index state.flow.items a) forward → is_settled settled (end_of (arc_at net a) forward) ≡ true
+
+-- the node is neither reached nor settled
+pub record IsCleared (distances : List ℕ) (settled : List Bool) (v : ℕ) : Type 0 where
+  pub far : unreached ≤ distance_at distances v
+  pub unsettled : is_settled settled v ≡ false
+
+-- a search that has not begun
+pub record IsBlank (net : NetworkValue) (search : Search) : Type 0 where
+  pub distances_long : length search.distances.items ≡ net.nodes
+  pub reaches_long : length search.reaches.items ≡ net.nodes
+  pub settled_long : length search.settled.items ≡ net.nodes
+  pub tree : search.tree.items ≡ []
+  pub cleared : (v : ℕ) → v < net.nodes → IsCleared search.distances.items search.settled.items v
+  pub waiting : (d v : ℕ) → Waits (heap_items search.queue.waiting) d v → ⊥
+
+-- every node that is reached stands in the tree or waits
+pub record IsClearable (net : NetworkValue) (search : Search) : Type 0 where
+  pub distances_long : length search.distances.items ≡ net.nodes
+  pub reaches_long : length search.reaches.items ≡ net.nodes
+  pub settled_long : length search.settled.items ≡ net.nodes
+  pub nodes : (i : ℕ) → i < length search.tree.items → (reach_at search.tree.items i).node < net.nodes
+  pub queued : (d v : ℕ) → Waits (heap_items search.queue.waiting) d v → v < net.nodes
+  pub covered : (v : ℕ) → v < net.nodes → IsCleared search.distances.items search.settled.items v
+      ⊎ (((i : ℕ) × (i < length search.tree.items) × ((reach_at search.tree.items i).node ≡ v)) ⊎ ((d : ℕ) × Waits (heap_items search.queue.waiting) d v))

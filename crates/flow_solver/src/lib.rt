@@ -11,6 +11,7 @@
 // search. What is proved says nothing of the number of steps.
 #![tactic(auto)]
 
+mod blank;
 mod guess;
 mod links;
 mod queue;

@@ -10,14 +10,14 @@ ghost use Rattle.flow_solver.specs.Step.{start_of, end_of, step_cost, left_on, s
 ghost use Rattle.flow_solver.specs.Search.{IsSearch, IsRelaxed, IsRelaxedFrom, IsReach, SameTree, IsFound, IsClosed, distance_at, reach_at, is_settled};
 
 use crate::links::{Links, bound_before, last_bound};
-use crate::queue::{Queue, empty, pop, push};
+use crate::queue::{Queue, pop, push};
 use crate::state::State;
 use crate::step::{Step, arc_of, cost, end, left, start};
 use bounded_network::{Arc, Network};
-use std::alloc::{AllocError, Global};
+use std::alloc::AllocError;
 
-// The distance of a node that is not reached.
-const UNREACHED: u64 = u64::MAX;
+/// The distance of a node that is not reached.
+pub const UNREACHED: u64 = u64::MAX;
 
 /// How a node is reached: from the node at a place of the tree, by a step, and how much can be carried on the way.
 #[derive(Clone, Copy)]
@@ -244,43 +244,6 @@ pub fn width_of(excess: i128) -> u64
     } else {
         u64::MAX
     }
-}
-
-/// A search that has settled its source alone.
-pub fn begin(alloc: Global, net: &Network, state: &State, source: u32) -> Result<Search, AllocError>
-    requires kept { IsState net.now state.now.flow.items state.now.excess.items state.now.potentials.items }
-    requires source_in { source < net.now.nodes }
-    requires rich { pos 0 <ℤ excess_at state.now.excess.items source }
-    ensures search { IfOk result (λ search. IsSearch net.now state.now search) }
-    ensures source { IfOk result (λ search. search.source ≡ source) }
-    ensures node { IfOk result (λ search. search.node ≡ source) }
-{
-    let nodes = net.nodes() as usize;
-    let root = Reach {
-        node: source,
-        from: 0,
-        step: Step {
-            arc: 0,
-            forward: true,
-        },
-        width: width_of(state.excess[source as usize]),
-    };
-    let mut tree = Vec::new(alloc);
-    tree.push(root)?;
-    let mut distances = vec![in alloc; UNREACHED; nodes]?;
-    distances[source as usize] = 0;
-    let mut settled = vec![in alloc; false; nodes]?;
-    settled[source as usize] = true;
-    let reaches = vec![in alloc; root; nodes]?;
-    Ok(Search {
-        source,
-        node: source,
-        tree,
-        reaches,
-        distances,
-        settled,
-        queue: empty(alloc),
-    })
 }
 
 /// Settles nodes until one lacks something, which is then settled last and gives `true`, or until nothing waits.

@@ -1,12 +1,15 @@
-ghost use Rattle.std.specs.Prelude.{◌≡◌, ◌*◌, ◌<◌, ◌≤◌, length, ℕ, ℤ, List, Bool, pos, ◌≤ℤ◌, IfOk, MatchOption};
+ghost use Rattle.std.specs.Prelude.{◌≡◌, ◌*◌, ◌<◌, ◌≤◌, length, ℕ, ℤ, List, Bool, pos, ◌≤ℤ◌, IfOk};
 ghost use Rattle.bounded_network.specs.Network.{IsNetwork, IsCirculation, AreOptimal, IsCheapest, AreViolated, potential_at};
+ghost use Rattle.std.specs.Bool.{OnTrue, OnFalse};
+ghost use Rattle.flow_solver.specs.Search.{IsBlank};
 ghost use Rattle.flow_solver.specs.Links.{AreLinks};
 ghost use Rattle.flow_solver.specs.State.{IsWithin, IsState, AreCalm, AreBounded, excess_at};
 ghost use Rattle.flow_solver.specs.Solution.{IfSolved, IfUnsat};
 
+use crate::blank::{blank, clear, set_out};
 use crate::guess::first_potentials;
 use crate::links::{Links, links_of};
-use crate::search::{begin, run};
+use crate::search::{Search, run};
 use crate::start::start_at;
 use crate::state::State;
 use crate::way::augment;
@@ -27,34 +30,38 @@ pub enum Solution {
     },
 }
 
-// Carries away what the source has too much, or gives the marks of a set that can't get rid of it.
+// Carries away what the source has too much, and is `false` where the settled nodes can't get rid of it.
 fn drain(
-    alloc: Global,
     net: &Network,
     links: &Links,
     state: &mut State,
+    search: &mut Search,
     source: u32,
-) -> Result<Option<Vec<bool>>, AllocError>
+) -> Result<bool, AllocError>
     requires kept { IsState net.now state.old.flow.items state.old.excess.items state.old.potentials.items }
     requires calm { AreCalm net.now state.old.excess.items state.old.potentials.items }
     requires links { AreLinks net.now links.now }
+    requires blank { IsBlank net.now search.old }
     requires source_in { source < net.now.nodes }
     ensures kept { IsState net.now state.new.flow.items state.new.excess.items state.new.potentials.items }
     ensures calm { AreCalm net.now state.new.excess.items state.new.potentials.items }
     ensures others { (v : ℕ) → excess_at state.old.excess.items v ≤ℤ pos 0 → excess_at state.new.excess.items v ≤ℤ pos 0 }
-    ensures ends { IfOk result (λ marks. MatchOption marks (excess_at state.new.excess.items source ≤ℤ pos 0) (λ m. AreViolated net.now m.items)) }
-    ensures long { IfOk result (λ marks. MatchOption marks (Unit {0}) (λ m. length m.items ≡ net.now.nodes)) }
+    ensures blank { IfOk result (λ drained. OnTrue drained (IsBlank net.now search.new)) }
+    ensures drained { IfOk result (λ drained. OnTrue drained (excess_at state.new.excess.items source ≤ℤ pos 0)) }
+    ensures violated { IfOk result (λ drained. OnFalse drained (AreViolated net.now search.new.settled.items)) }
+    ensures long { IfOk result (λ drained. OnFalse drained (length search.new.settled.items ≡ net.now.nodes)) }
 {
     let _nodes = net.nodes();
     'draining: while state.excess[source as usize] > 0 {
-        let mut search = begin(alloc, net, state, source)?;
-        let found = run(net, links, state, &mut search)?;
+        set_out(net, state, search, source)?;
+        let found = run(net, links, state, search)?;
         if !found {
-            return Ok(Some(search.settled));
+            return Ok(false);
         }
-        augment(net, state, &search);
+        augment(net, state, search);
+        clear(net, search);
     }
-    Ok(None)
+    Ok(true)
 }
 
 /// A circulation of least cost with the potentials that prove it, or marks that prove that there is none.
@@ -78,10 +85,13 @@ pub fn solve(alloc: Global, net: &Network) -> Result<Solution, AllocError>
     let _nodes = net.nodes();
     let potentials = first_potentials(alloc, net)?;
     let mut state = start_at(alloc, net, potentials)?;
+    let mut search = blank(alloc, net)?;
     for source in 0..net.nodes() {
-        let ended = drain(alloc, net, &links, &mut state, source)?;
-        if let Some(marks) = ended {
-            return Ok(Solution::Unsat { marks });
+        let drained = drain(net, &links, &mut state, &mut search, source)?;
+        if !drained {
+            return Ok(Solution::Unsat {
+                marks: search.settled,
+            });
         }
     }
     Ok(Solution::Solved {

@@ -1,7 +1,7 @@
 // The state of the solver.
 ghost use Rattle.std.specs.Prelude.{◌≡◌, ◌+◌, ◌*◌, ◌^◌, ◌<◌, ◌≤◌, ◌==◌, length, ℕ, ℤ, pos, negsuc, ◌≤ℤ◌, ◌+ℤ◌, ◌-ℤ◌, slice_index, slice_set, IfOk};
 ghost use Rattle.bounded_network.specs.Network.{NetworkValue, IsNetwork, arc_at, potential_at};
-ghost use Rattle.flow_solver.specs.State.{IsWithin, excess_at, IsState, IsShifted, AreFallen};
+ghost use Rattle.flow_solver.specs.State.{IsWithin, excess_at, IsState, IsShifted};
 ghost use Rattle.flow_solver.specs.Step.{start_of, end_of, left_on, step_reduced, carried};
 
 use crate::step::{Step, arc_of, carry_on, end, start};
@@ -63,25 +63,4 @@ pub fn carry(net: &Network, state: &mut State, step: Step, amount: u64)
         end(arc, step.forward),
         amount,
     );
-}
-
-// A potential lowered by the amount.
-fn lower(potential: i64, amount: u64) -> i64
-    requires small { IsWithin (2 ^ 60) potential }
-    requires little { amount < 2 ^ 61 }
-    ensures { result ≡ potential -ℤ pos amount }
-{
-    potential - amount as i64
-}
-
-/// Lowers each potential by what the node's distance lacks to the depth.
-pub fn fall(potentials: &mut [i64], distances: &[u64], depth: u64)
-    requires long { length distances.now ≡ length potentials.old }
-    requires small { (v : ℕ) → v < length potentials.old → IsWithin (2 ^ 60) (potential_at potentials.old v) }
-    requires shallow { depth < 2 ^ 61 }
-    ensures { AreFallen potentials.old potentials.new distances.now depth }
-{
-    for node in 0..potentials.len() {
-        potentials[node] = lower(potentials[node], depth.saturating_sub(distances[node]));
-    }
 }

@@ -1,12 +1,12 @@
 // Carrying an amount from a source to a node that lacks something.
-ghost use Rattle.std.specs.Prelude.{◌≡◌, ◌-◌, ◌*◌, ◌^◌, ◌<◌, ◌≤◌, length, ℕ, ℤ, pos, ◌+ℤ◌, ◌-ℤ◌, ◌≤ℤ◌, ◌<ℤ◌};
-ghost use Rattle.bounded_network.specs.Network.{IsNetwork};
+ghost use Rattle.std.specs.Prelude.{◌≡◌, ◌≢◌, ◌-◌, ◌*◌, ◌^◌, ◌<◌, ◌≤◌, length, ℕ, ℤ, pos, ◌+ℤ◌, ◌-ℤ◌, ◌≤ℤ◌, ◌<ℤ◌};
+ghost use Rattle.bounded_network.specs.Network.{IsNetwork, potential_at};
 ghost use Rattle.flow_solver.specs.Search.{IsFound, reach_at, distance_at};
 ghost use Rattle.flow_solver.specs.State.{IsWithin, IsState, IsShifted, AreCalm, excess_at};
 ghost use Rattle.flow_solver.specs.Way.{IsWay};
 
 use crate::search::{Reach, Search, width_of};
-use crate::state::{State, carry, fall};
+use crate::state::{State, carry};
 use bounded_network::Network;
 
 // Carries the amount along the tree from its root to its last node.
@@ -26,6 +26,33 @@ fn carry_along(net: &Network, state: &mut State, tree: &[Reach], amount: u64)
     }
 }
 
+// A potential lowered by the amount.
+fn lower(potential: i64, amount: u64) -> i64
+    requires small { IsWithin (2 ^ 60) potential }
+    requires little { amount < 2 ^ 61 }
+    ensures { result ≡ potential -ℤ pos amount }
+{
+    potential - amount as i64
+}
+
+// Lowers the potential of each node of the tree by what its distance lacks to the depth.
+fn fall(potentials: &mut [i64], distances: &[u64], tree: &[Reach], depth: u64)
+    requires nodes { (i : ℕ) → i < length tree.now → (reach_at tree.now i).node < length potentials.old }
+    requires long { length distances.now ≡ length potentials.old }
+    requires separate { (i j : ℕ) → i < j → j < length tree.now → (reach_at tree.now i).node ≢ (reach_at tree.now j).node }
+    requires small { (v : ℕ) → IsWithin (2 ^ 60) (potential_at potentials.old v) }
+    requires shallow { depth < 2 ^ 61 }
+    ensures long { length potentials.new ≡ length potentials.old }
+    ensures fallen { (i : ℕ) → i < length tree.now → potential_at potentials.new (reach_at tree.now i).node ≡ potential_at potentials.old (reach_at tree.now i).node -ℤ pos (depth - distance_at distances.now (reach_at tree.now i).node) }
+    ensures rest { (v : ℕ) → ((i : ℕ) → i < length tree.now → (reach_at tree.now i).node ≢ v) → potential_at potentials.new v ≡ potential_at potentials.old v }
+{
+    for place in 0..tree.len() {
+        let node = tree[place].node as usize;
+        let value = lower(potentials[node], depth.saturating_sub(distances[node]));
+        potentials[node] = value;
+    }
+}
+
 // Lowers the potentials of the settled nodes, so that the steps of the tree have reduced cost 0.
 fn fall_to(net: &Network, state: &mut State, search: &Search)
     requires kept { IsState net.now state.old.flow.items state.old.excess.items state.old.potentials.items }
@@ -39,7 +66,12 @@ fn fall_to(net: &Network, state: &mut State, search: &Search)
 {
     let _nodes = net.nodes();
     let depth = search.distances[search.node as usize];
-    fall(&mut state.potentials, &search.distances, depth);
+    fall(
+        &mut state.potentials,
+        &search.distances,
+        &search.tree,
+        depth,
+    );
 }
 
 // How much is lacking, as much of it as fits.

@@ -46,3 +46,11 @@ overflow_add-result c =
     let small = over_small c.args.net.now c.args.state.now _ _ _ _ _ _ _ c.arc_of-arc.ensures.kept c.requires.kept c.requires.search c.args.step.arc c.args.step.forward c.requires.arc_in c.requires.starts in
     let e = reduced_is before in
     omega (arith, ints, c.reduced.ensures, small, e, distance)
+
+pub returns : goal.returns
+returns c =
+    let before : After-cost = (goal.at.returns c).After-cost in
+    let b : c.args.search.now.node < length c.args.search.now.distances.items = omega (arith, c.requires.search.distances_long, c.requires.search.node_in) in
+    let distance : c.index.result.now ≡ distance_at c.args.search.now.distances.items c.args.search.now.node = get_or_read _ _ _ b c.index.ensures 0 in
+    let e = reduced_is before in
+    omega (arith, ints, c.reduced.ensures, e, distance)

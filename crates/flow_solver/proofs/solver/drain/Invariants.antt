@@ -1,5 +1,6 @@
 use Rattle.std.proofs.Common.{ℕ}
 use Rattle.std.specs.Prelude.{pos, ◌≤ℤ◌}
+use Rattle.flow_solver.specs.Search.{IsBlank}
 use Rattle.flow_solver.specs.State.{IsState, AreCalm, excess_at}
 use Rattle.flow_solver.proofs.Endings.{worth}
 use Rattle.flow_solver.proofs.solver.drain.Given as goal
@@ -8,6 +9,7 @@ use Rattle.flow_solver.proofs.solver.drain.Given as goal
 abbrev pub invariant-draining : goal.invariant-draining
 invariant-draining l = record {
   kept : IsState l.net l.state.flow.items l.state.excess.items l.state.potentials.items;
+  blank : IsBlank l.net l.search;
   calm : AreCalm l.net l.state.excess.items l.state.potentials.items;
   others : (v : ℕ) → excess_at l.initial.state.excess.items v ≤ℤ pos 0 → excess_at l.state.excess.items v ≤ℤ pos 0;
 }

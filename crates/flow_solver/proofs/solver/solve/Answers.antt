@@ -1,14 +1,15 @@
 use Rattle.std.proofs.Common.{arith}
+use Rattle.std.proofs.lemmas.Bool.{OnFalse_at}
 use Rattle.bounded_network.specs.Network.{IsCirculation}
 use Rattle.bounded_network.proofs.Laws.{cheapest-at_optimal, none-at_violated}
 use Rattle.flow_solver.proofs.Endings.{IsCirculation-from_poor}
 use Rattle.flow_solver.proofs.solver.solve.Goals as goal
 use Rattle.flow_solver.proofs.solver.solve.Goals.{After-loop-source}
 
-pub returns-in-Some-clause-none : goal.returns-in-Some-clause-none
-returns-in-Some-clause-none c =
-    let ends = rw c.in-Some.is at c.in_ok-ended.ensures.ends in
-    none-at_violated c.args.net.now c.in-Some.marks.items c.nodes-nodes.ensures.kept ends
+pub returns-then-not-drained-clause-none : goal.returns-then-not-drained-clause-none
+returns-then-not-drained-clause-none c =
+    let broken = OnFalse_at c.if-not-drained.true c.in_ok-drained.ensures.violated in
+    none-at_violated c.args.net.now c.drain.new.search.settled.items c.nodes-nodes.ensures.kept broken
 
 circulates : (c : After-loop-source) → IsCirculation c.args.net.now c.loop-source.state.flow.items
 circulates c =

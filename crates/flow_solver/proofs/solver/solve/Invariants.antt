@@ -1,5 +1,6 @@
 use Rattle.std.proofs.Common.{ℕ, ◌<◌}
 use Rattle.std.specs.Prelude.{pos, ◌≤ℤ◌}
+use Rattle.flow_solver.specs.Search.{IsBlank}
 use Rattle.flow_solver.specs.State.{IsState, AreCalm, excess_at}
 use Rattle.flow_solver.proofs.solver.solve.Given as goal
 
@@ -7,6 +8,7 @@ use Rattle.flow_solver.proofs.solver.solve.Given as goal
 abbrev pub invariant-loop-source : goal.invariant-loop-source
 invariant-loop-source l = record {
   kept : IsState l.net l.state.flow.items l.state.excess.items l.state.potentials.items;
+  blank : IsBlank l.net l.search;
   calm : AreCalm l.net l.state.excess.items l.state.potentials.items;
   poor : (v : ℕ) → v < l.source → excess_at l.state.excess.items v ≤ℤ pos 0;
 }

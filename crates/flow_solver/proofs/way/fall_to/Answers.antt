@@ -1,11 +1,12 @@
 use Rattle.std.proofs.Common.{◌≡◌, ◌<◌, take, drop, length, ◌++◌, arith, refl}
 use Rattle.std.specs.BinaryHeap.{heap_items}
 use Rattle.std.proofs.lemmas.List.{get_or_read}
+use Rattle.std.proofs.lemmas.Int.{ints}
 use Rattle.std.proofs.lemmas.Grind.{common_steps}
 use Rattle.flow_solver.specs.Search.{distance_at}
 use Rattle.flow_solver.specs.State.{AreFallen}
-use Rattle.flow_solver.proofs.Bounds.{settled_small}
-use Rattle.flow_solver.proofs.Falling.{IsState-fallen, AreCalm-fallen, IsWay-fallen}
+use Rattle.flow_solver.proofs.Bounds.{settled_small, potential_within}
+use Rattle.flow_solver.proofs.Falling.{AreFallen-from_tree, IsState-fallen, AreCalm-fallen, IsWay-fallen}
 use Rattle.flow_solver.proofs.way.fall_to.Goals as goal
 use Rattle.flow_solver.proofs.way.fall_to.Goals.{After-fall}
 
@@ -17,7 +18,16 @@ fallen c =
     let search = c.requires.found.search_kept in
     let b : c.args.search.now.node < length c.args.search.now.distances.items = omega (arith, search.node_in, search.distances_long) in
     let depth : c.index-depth.result.now ≡ distance_at c.args.search.now.distances.items c.args.search.now.node = get_or_read _ _ _ b c.index-depth.ensures 0 in
-    rw (c.deref_mut.ensures.value, c.deref.ensures.value, depth) at c.fall.ensures
+    let on_tree = rw (c.deref_mut.ensures.value, c.deref.ensures.value, c.deref-2.ensures.value, depth) at c.fall.ensures.fallen in
+    let rest = rw (c.deref_mut.ensures.value, c.deref-2.ensures.value) at c.fall.ensures.rest in
+    let long = rw c.deref_mut.ensures.value at c.fall.ensures.long in
+    AreFallen-from_tree c.args.net.now c.args.state.now c.args.search.now.source c.args.search.now.node c.args.search.now.tree.items c.args.search.now.reaches.items c.args.search.now.distances.items c.args.search.now.settled.items (heap_items c.args.search.now.queue.waiting)
+    search c.requires.kept.potentials_long c.fall.new.potentials long on_tree rest
+
+pub fall-requires-clause-small : goal.fall-requires-clause-small
+fall-requires-clause-small c = λ v.
+    let small = potential_within c.args.net.now c.args.state.now c.nodes-nodes.ensures.kept c.requires.kept v in
+    rw c.deref_mut.ensures.value (record { low = omega (arith, ints, small.low); high = omega (arith, ints, small.high) })
 
 pub fall-requires-clause-shallow : goal.fall-requires-clause-shallow
 fall-requires-clause-shallow c =
