@@ -43,17 +43,17 @@ struct Parts {
 #[tactic(auto, unfolding(crate::specs::AnswerReading::certificate_at))]
 fn read_parts<S: Source>(
     alloc: Global,
-    lines: &mut Lines,
+    mut lines: Lines,
     source: &mut S,
 ) -> Result<Parts, ReadError>
-    ensures reads { IsSome (S.left source.new) → MatchResult result (λ parts. certificate_at (cursor lines.old (S.left source.old)) ≡ Ok (parts.rules, parts.winning)) (λ e. Fails e (certificate_at (cursor lines.old (S.left source.old)))) }
+    ensures reads { IsSome (S.left source.new) → MatchResult result (λ parts. certificate_at (cursor lines (S.left source.old)) ≡ Ok (parts.rules, parts.winning)) (λ e. Fails e (certificate_at (cursor lines (S.left source.old)))) }
     ensures matching { IfOk result (λ parts. IsCertificate parts.rules parts.winning) }
     ensures end { IsSome (S.left source.new) → OnOk result (told (S.left source.new) ≡ []) }
     ensures untold { TellsNoMore (S.left source.old) (S.left source.new) }
     ensures cause { FaultHasCause (S.faults source.old) (S.faults source.new) result }
 {
-    let rules = read_rules(alloc, lines, source)?;
-    let winning = read_lottery(alloc, lines, source, Sizes::of(&rules))?;
+    let rules = read_rules(alloc, &mut lines, source)?;
+    let winning = read_lottery(alloc, &mut lines, source, Sizes::of(&rules))?;
     lines.finish(source)?;
     Ok(Parts { rules, winning })
 }
@@ -78,10 +78,10 @@ pub fn read_certificate<S: Source>(
     ensures later { S.faults source.old ≤ S.faults source.new }
     ensures fault { IsErrOf result ReadRefusal.ReadFault → Rose (S.faults source.old) (S.faults source.new) }
 {
-    let Ok(mut lines) = Lines::new(alloc) else {
+    let Ok(lines) = Lines::new(alloc) else {
         return Err(ReadRefusal::Memory);
     };
-    match read_parts(alloc, &mut lines, source) {
+    match read_parts(alloc, lines, source) {
         Ok(parts) => Ok(Certificate {
             rules: parts.rules,
             answer: Answer::Lottery(parts.winning),

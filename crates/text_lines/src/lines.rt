@@ -86,8 +86,8 @@ impl Lines {
     }
 
     /// Whether the text ends here: a fault where bytes are left.
-    pub fn finish<S: Source>(&mut self, source: &mut S) -> Result<(), ReadError>
-        ensures reads { IsSome (S.left source.new) → MatchResult result (λ _. end_at (cursor self.old (S.left source.old)) ≡ Ok tt) (λ e. Fails e (end_at (cursor self.old (S.left source.old)))) }
+    pub fn finish<S: Source>(mut self, source: &mut S) -> Result<(), ReadError>
+        ensures reads { IsSome (S.left source.new) → MatchResult result (λ _. end_at (cursor self (S.left source.old)) ≡ Ok tt) (λ e. Fails e (end_at (cursor self (S.left source.old)))) }
         ensures end { IsSome (S.left source.new) → OnOk result (told (S.left source.new) ≡ []) }
         ensures untold { TellsNoMore (S.left source.old) (S.left source.new) }
         ensures cause { FaultHasCause (S.faults source.old) (S.faults source.new) result }

@@ -14,6 +14,6 @@ returns-in-Ok-read_parts-clause-only g c = λ tells rules winning is text.
     let same = same_parts _ parts.rules rules parts.winning winning (c.in-Ok-read_parts.ensures.reads tells) (read_of_text c.in-Ok.lines (g.S.Source.left c.args.source.now) rules winning c.in-Ok.ensures.0 is text) in
     (same.0, ap Lottery same.1)
 
-pub returns-clause-only : goal.returns-clause-only
-returns-clause-only g c = λ tells rules winning is text.
+pub returns-in-Err-Text-clause-only : goal.returns-in-Err-Text-clause-only
+returns-in-Err-Text-clause-only g c = λ tells rules winning is text.
     not_both c.in-Err-Text.field-0 c.in-Err-Text.field-0-0 _ rules winning c.in-Err-Text.field-0-is (c.in-Err-Text.ensures.reads tells) (read_of_text c.in-Ok.lines (g.S.Source.left c.args.source.now) rules winning c.in-Ok.ensures.0 is text)

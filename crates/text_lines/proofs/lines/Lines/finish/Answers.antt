@@ -9,7 +9,7 @@ use Rattle.text_lines.proofs.lines.Lines.finish.Goals as goal
 pub returns-then-branch-clause-reads : goal.returns-then-branch-clause-reads
 returns-then-branch-clause-reads g c = λ tells.
     let some = ltb-true 0 (length c.more.new.self.unread) (sym c.in_ok-more.ensures.some ∙ c.if-branch.true) in
-    end_bad (cursor c.args.self.now (g.S.Source.left c.args.source.now)) (omega (arith, some, ap length (c.more.ensures.all tells), length-append c.more.new.self.unread (told (g.S.Source.left c.more.new.source))))
+    end_bad (cursor c.args.self (g.S.Source.left c.args.source.now)) (omega (arith, some, ap length (c.more.ensures.all tells), length-append c.more.new.self.unread (told (g.S.Source.left c.more.new.source))))
 
 pub returns-clause-reads : goal.returns-clause-reads
-returns-clause-reads g c = λ tells. end_ok (cursor c.args.self.now (g.S.Source.left c.args.source.now)) (c.in_ok-more.ensures.end tells c.if-branch.false)
+returns-clause-reads g c = λ tells. end_ok (cursor c.args.self (g.S.Source.left c.args.source.now)) (c.in_ok-more.ensures.end tells c.if-branch.false)
