@@ -5,7 +5,8 @@ use Rattle.std.specs.List.{position_or_len}
 use Rattle.std.proofs.lemmas.List.Splits.{slice_split_none, slice_split_first, length-slice_split, join_with_byte-slice_split}
 use Rattle.std.proofs.lemmas.List.Sums.{fails_before_first}
 use Rattle.std.proofs.lemmas.Str.Pattern.{IsSplitOnceResult, split_once_first}
-use Rattle.text_lines.specs.Fields.{is_space, fields, with_spaces, one_of}
+use Rattle.std.specs.Option.{option_map}
+use Rattle.text_lines.specs.Fields.{is_space, fields, with_spaces, one_of, one_or_two_of}
 use denote.Ref.{Bor}
 
 pub fields_by_split : (line : List ℕ) (r : Option (Bor (List ℕ) × Bor (List ℕ))) → IsSplitOnceResult 32 line r → MatchOption r (fields line ≡ line ∷ []) (λ p. fields line ≡ p.0.now ∷ fields p.1.now)
@@ -24,6 +25,10 @@ fields_some line = omega (arith, length-slice_split is_space line)
 pub one_of_more : (a : List ℕ) (parts : List (List ℕ)) → 0 < length parts → one_of (a ∷ parts) ≡ None
 one_of_more a [] h = absurd (omega arith)
 one_of_more a (b ∷ parts) h = refl
+
+pub one_or_two_of_more : (a : List ℕ) (parts : List (List ℕ)) → 0 < length parts → one_or_two_of (a ∷ parts) ≡ option_map (λ (last : List ℕ). (a, Some last)) (one_of parts)
+one_or_two_of_more a [] h = absurd (omega arith)
+one_or_two_of_more a (b ∷ parts) h = refl
 
 -- the fields of a line spell it
 pub with_spaces-fields : (line : List ℕ) → with_spaces (fields line) ≡ line

@@ -1,6 +1,7 @@
 -- Lines of fixed words, lines of a word and a number, and sections: what is read is spelled so, and read again.
-use Rattle.std.proofs.Common.{◌≡◌, ℕ, ◌^◌, ◌<◌, ◌≤◌, true, leb, List, [], ◌∷◌, ◌++◌, length, Option, None, Some, Result, Ok, ℤ, refl, sym, ap, ◌∙◌, append_assoc, arith}
-use Rattle.std.specs.Prelude.{decimal, nat_abs}
+use Rattle.std.proofs.Common.{◌≡◌, ℕ, ◌^◌, ◌<◌, ◌≤◌, true, leb, List, [], ◌∷◌, ◌++◌, length, Option, None, Some, Result, Ok, ℤ, refl, sym, ap, subst, ◌∙◌, append_assoc, arith}
+use Rattle.std.specs.Prelude.{decimal, nat_abs, option_to_list}
+use Rattle.std.proofs.lemmas.Option.{same_Some}
 use Rattle.std.specs.Fmt.{signed_decimal}
 use lib.Signed.{mag}
 use Rattle.std.specs.Str.{bytes_eq}
@@ -10,7 +11,7 @@ use Rattle.text_lines.specs.declared.fault.LineCode.{LineCode}
 use Rattle.text_lines.specs.declared.fault.LineCode.TheVariants.{Form, Number, Range}
 use Rattle.text_lines.specs.declared.fault.TextFault.{TextFault}
 use Rattle.text_lines.specs.declared.fault.ReadError.{ReadError}
-use Rattle.text_lines.specs.Fields.{fields, with_spaces, two_of, three_of, five_of}
+use Rattle.text_lines.specs.Fields.{fields, with_spaces, two_of, three_of, three_or_four_of, five_of}
 use Rattle.text_lines.specs.Forms.{fixed, in_form, only_if, integer_from, number_from, counted, counted_of, section_at, count_line, section_text}
 use Rattle.text_lines.specs.Numbers.{is_canonical, is_canonical_signed, value, signed_value, size}
 use Rattle.text_lines.specs.Reading.{◌>>=◌, Cursor, Gives, due, items_at, following}
@@ -94,6 +95,22 @@ three_of_is (a ∷ b ∷ c ∷ d ∷ parts) f e = absurd cc
 
 pub three_fields_spell : (line : List ℕ) (f : List ℕ × List ℕ × List ℕ) → in_form (three_of (fields line)) ≡ Ok f → line ≡ with_spaces (f.0 ∷ f.1 ∷ f.2 ∷ [])
 three_fields_spell line f e = sym (with_spaces-fields line) ∙ ap with_spaces (three_of_is (fields line) f (in_form_ok (three_of (fields line)) f e))
+
+three_or_four_of_is : (parts : List (List ℕ)) (f : List ℕ × List ℕ × List ℕ × Option (List ℕ)) → three_or_four_of parts ≡ Some f → parts ≡ f.0 ∷ f.1 ∷ f.2 ∷ option_to_list f.3
+three_or_four_of_is [] f e = absurd cc
+three_or_four_of_is (a ∷ []) f e = absurd cc
+three_or_four_of_is (a ∷ b ∷ []) f e = absurd cc
+three_or_four_of_is (a ∷ b ∷ c ∷ []) f e = subst (λ (g : List ℕ × List ℕ × List ℕ × Option (List ℕ)). a ∷ b ∷ c ∷ [] ≡ g.0 ∷ g.1 ∷ g.2 ∷ option_to_list g.3) (same_Some (a, b, c, None) f e) refl
+three_or_four_of_is (a ∷ b ∷ c ∷ d ∷ []) f e = subst (λ (g : List ℕ × List ℕ × List ℕ × Option (List ℕ)). a ∷ b ∷ c ∷ d ∷ [] ≡ g.0 ∷ g.1 ∷ g.2 ∷ option_to_list g.3) (same_Some (a, b, c, Some d) f e) refl
+three_or_four_of_is (a ∷ b ∷ c ∷ d ∷ x ∷ parts) f e = absurd cc
+
+pub three_or_four_fields_spell : (line : List ℕ) (f : List ℕ × List ℕ × List ℕ × Option (List ℕ)) → in_form (three_or_four_of (fields line)) ≡ Ok f → line ≡ with_spaces (f.0 ∷ f.1 ∷ f.2 ∷ option_to_list f.3)
+three_or_four_fields_spell line f e = sym (with_spaces-fields line) ∙ ap with_spaces (three_or_four_of_is (fields line) f (in_form_ok (three_or_four_of (fields line)) f e))
+
+-- three fields, or four, are those of a line that spells them
+pub three_or_four_of_again : (a b c : List ℕ) (d : Option (List ℕ)) → three_or_four_of (a ∷ b ∷ c ∷ option_to_list d) ≡ Some (a, b, c, d)
+three_or_four_of_again a b c None = refl
+three_or_four_of_again a b c (Some d) = refl
 
 five_of_is : (parts : List (List ℕ)) (f : List ℕ × List ℕ × List ℕ × List ℕ × List ℕ) → five_of parts ≡ Some f → parts ≡ f.0 ∷ f.1 ∷ f.2 ∷ f.3 ∷ f.4 ∷ []
 five_of_is [] f e = absurd cc

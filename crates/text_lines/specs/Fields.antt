@@ -35,3 +35,17 @@ four_of (a ∷ parts) = option_map (λ (p : List ℕ × List ℕ × List ℕ). (
 abbrev pub five_of : List (List ℕ) → Option (List ℕ × List ℕ × List ℕ × List ℕ × List ℕ)
 five_of [] = None
 five_of (a ∷ parts) = option_map (λ (p : List ℕ × List ℕ × List ℕ × List ℕ). (a, p.0, p.1, p.2, p.3)) (four_of parts)
+
+-- one field, or two
+abbrev pub one_or_two_of : List (List ℕ) → Option (List ℕ × Option (List ℕ))
+one_or_two_of [] = None
+one_or_two_of (a ∷ []) = Some (a, None)
+one_or_two_of (a ∷ b ∷ parts) = option_map (λ (last : List ℕ). (a, Some last)) (one_of (b ∷ parts))
+
+abbrev pub two_or_three_of : List (List ℕ) → Option (List ℕ × List ℕ × Option (List ℕ))
+two_or_three_of [] = None
+two_or_three_of (a ∷ parts) = option_map (λ (p : List ℕ × Option (List ℕ)). (a, p.0, p.1)) (one_or_two_of parts)
+
+abbrev pub three_or_four_of : List (List ℕ) → Option (List ℕ × List ℕ × List ℕ × Option (List ℕ))
+three_or_four_of [] = None
+three_or_four_of (a ∷ parts) = option_map (λ (p : List ℕ × List ℕ × Option (List ℕ)). (a, p.0, p.1, p.2)) (two_or_three_of parts)

@@ -5,6 +5,9 @@ ghost use Rattle.std.specs.Char.{is_ascii_digit};
 ghost use Rattle.std.specs.List.{list_all};
 ghost use Rattle.text_lines.specs.Numbers.{is_canonical, is_canonical_signed, value, signed_value, size};
 
+/// The greatest number of 64 bits.
+pub const MOST_AMOUNT: u64 = 18_446_744_073_709_551_615;
+
 /// Whether the text spells a number canonically: `0`, or a digit from 1 to 9 and further digits.
 pub fn is_canonical(text: &[u8]) -> bool
     ensures { result ≡ is_canonical text.now }
@@ -40,13 +43,13 @@ pub fn is_canonical_signed(text: &[u8]) -> bool
 
 /// The number that a canonical text spells, where it is at most `most`.
 pub fn number_up_to(text: &[u8], most: u64) -> Option<u64>
-    requires canonical { is_canonical text.now ≡ true }
-    requires small { most < 2 ^ 60 }
+    requires { is_canonical text.now ≡ true }
     ensures { SomeIff result (value text.now ≤ most) (value text.now) }
 {
     let mut number: u64 = 0;
     for byte in text {
-        number = number * 10 + u64::from(*byte - b'0');
+        let digit = u64::from(*byte - b'0');
+        number = number.checked_mul(10)?.checked_add(digit)?;
         if number > most {
             return None;
         }

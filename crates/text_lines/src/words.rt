@@ -8,7 +8,7 @@ use crate::fault::{LineCode, LineError, ReadError};
 use crate::fields::two_fields;
 use crate::form::{LineForm, read_items, read_line};
 use crate::lines::Lines;
-use crate::number::{integer_up_to, is_canonical, is_canonical_signed, number_up_to};
+use crate::number::{MOST_AMOUNT, integer_up_to, is_canonical, is_canonical_signed, number_up_to};
 use edge_io::Source;
 use std::alloc::Global;
 
@@ -54,6 +54,39 @@ impl<'a> LineForm for CountLine<'a> {
     }
 }
 
+// A line of a word and a number of 64 bits.
+#[derive(Drop)]
+struct AmountLine<'a> {
+    word: &'a str,
+}
+
+impl<'a> LineForm for AmountLine<'a> {
+    ghost use Rattle.text_lines.specs.declared.number.TheConstants.{MOST_AMOUNT};
+
+    type Item = u64;
+
+    ghost ready = { λ form before. Unit {0} };
+
+    ghost reads = { λ form before line. counted form.word.now 0 MOST_AMOUNT line };
+
+    fn read(&mut self, _alloc: Global, _before: &[u64], line: &str) -> Result<u64, LineError> {
+        Ok(amount_in(self.word, line)?)
+    }
+}
+
+#[tactic(auto, unfolding(crate::specs::Forms::counted))]
+fn amount_in(word: &str, line: &str) -> Result<u64, LineCode>
+    ensures { result ≡ counted word.now 0 MOST_AMOUNT line.now }
+{
+    let Some((first, number)) = two_fields(line) else {
+        return Err(LineCode::Form);
+    };
+    if first != word {
+        return Err(LineCode::Form);
+    }
+    amount_from(number)
+}
+
 #[tactic(auto, unfolding(crate::specs::Forms::counted))]
 fn counted(word: &str, least: u32, most: u32, line: &str) -> Result<u32, LineCode>
     ensures { result ≡ counted word.now least most line.now }
@@ -83,6 +116,20 @@ pub fn number_from(field: &str, least: u32, most: u32) -> Result<u32, LineCode>
         return Err(LineCode::Range);
     }
     Ok(number)
+}
+
+// The number of 64 bits that a field spells.
+fn amount_from(field: &str) -> Result<u64, LineCode>
+    ensures { result ≡ number_from 0 MOST_AMOUNT field.now }
+{
+    let text = field.as_bytes();
+    if !is_canonical(text) {
+        return Err(LineCode::Number);
+    }
+    match number_up_to(text, MOST_AMOUNT) {
+        Some(number) => Ok(number),
+        None => Err(LineCode::Range),
+    }
 }
 
 /// The signed number that a field spells, of a magnitude of at most `most`.
@@ -136,6 +183,20 @@ pub fn read_count<S: Source>(
         &mut CountLine { word, least, most },
         &[],
     )
+}
+
+/// Reads a line of a word and a number of 64 bits.
+pub fn read_amount<S: Source>(
+    alloc: Global,
+    lines: &mut Lines,
+    source: &mut S,
+    word: &str,
+) -> Result<u64, ReadError>
+    ensures reads { IsSome (S.left source.new) → Gives (λ item. item) result (cursor lines.new (S.left source.new)) (due (counted word.now 0 MOST_AMOUNT) (cursor lines.old (S.left source.old))) }
+    ensures untold { TellsNoMore (S.left source.old) (S.left source.new) }
+    ensures cause { FaultHasCause (S.faults source.old) (S.faults source.new) result }
+{
+    read_line(alloc, lines, source, &mut AmountLine { word }, &[])
 }
 
 /// Reads a section: a line of its word and the number of its items, from `least` to `most`, and a line for each item.
