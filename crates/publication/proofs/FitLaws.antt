@@ -54,10 +54,10 @@ along_shares sizes ns are = along_from_at FitsShare [] ns 0 (λ k lt. are.1 k 0 
 abbrev places_test : Piece → Piece → Bool
 places_test a b = is_lt (slice_cmp nat_cmp a.pairs b.pairs)
 
-below_all : (count : ℕ) (places : List ℕ) → list_all (λ place. nat_lt place count) places ≡ true → All (λ e. e < count) places
+pub below_all : (count : ℕ) (places : List ℕ) → list_all (λ place. nat_lt place count) places ≡ true → All (λ e. e < count) places
 below_all count places h = λ k d lt. ltb-true (get_or places k d) count (AllPass-from_list_all (λ place. nat_lt place count) places h k d lt)
 
-all_below : (count : ℕ) (places : List ℕ) → All (λ e. e < count) places → list_all (λ place. nat_lt place count) places ≡ true
+pub all_below : (count : ℕ) (places : List ℕ) → All (λ e. e < count) places → list_all (λ place. nat_lt place count) places ≡ true
 all_below count places h = list_all-from_AllPass (λ place. nat_lt place count) places (λ k d lt. lt-ltb (get_or places k d) count (h k d lt))
 
 pub pieces_along : (sizes : Sizes) (ps : List Piece) → length ps ≤ MOST_TICKETS → AllAlong (FitsPiece sizes.pairs) [] ps → ArePiecesFor sizes ps

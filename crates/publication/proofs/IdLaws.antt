@@ -1,15 +1,18 @@
 -- Ids are words of a line.
-use Rattle.std.proofs.Common.{◌≡◌, ℕ, ◌<◌, ◌≤◌, Bool, true, false, ◌&&◌, eqb, leb, List, [], ◌∷◌, length, Result, Ok, Err, refl, sym, ap, ◌∙◌, arith, lit<}
+use Rattle.std.proofs.Common.{◌≡◌, ℕ, ◌+◌, ◌<◌, ◌≤◌, Bool, true, false, ◌&&◌, eqb, leb, List, [], ◌∷◌, length, Option, None, Some, Result, Ok, Err, refl, sym, ap, subst, ◌∙◌, arith, lit<}
 use Rattle.std.specs.List.{list_all}
+use Rattle.std.specs.Prelude.{option_to_list}
 use Rattle.std.specs.Str.{IsUtf8, is_utf8, chars, NonePass, NoCharPasses}
+use Rattle.std.proofs.lemmas.Option.{same_Some}
 use Rattle.std.proofs.lemmas.Bool.{and_parts, leb-true, eqb-true, false_from_ne_true, false≢true}
 use Rattle.std.proofs.lemmas.Str.{IsUtf8-from_is_utf8, encodes-chars}
-use Rattle.match_rules.specs.Id.{is_id, is_id_char, is_name}
+use Rattle.match_rules.specs.Id.{is_id, is_id_char, is_institution, is_institution_char, is_name}
 use Rattle.text_lines.specs.declared.fault.LineCode.{LineCode}
 use Rattle.text_lines.specs.declared.fault.LineCode.TheVariants.{Id}
+use Rattle.text_lines.specs.Fields.{with_spaces}
 use Rattle.text_lines.proofs.TextLaws.{guard_ok, ok_is}
-use Rattle.publication.specs.RulesReading.{id_of}
-use Rattle.text_lines.proofs.WordLaws.{IsWord, Lacks-from_chars}
+use Rattle.publication.specs.RulesReading.{id_of, institution_of}
+use Rattle.text_lines.proofs.WordLaws.{IsWord, AllWords, Lacks-from_chars, length-with_spaces_one, length-with_spaces_more}
 
 -- a name of characters that pass a test
 record NameParts (test : ℕ → Bool) (id : List ℕ) : Type 0 where
@@ -55,3 +58,38 @@ id_of_takes field id e =
     let a = guard_ok (is_id field) Id (Ok field) id e in
     let same : field ≡ id = ok_is {E = LineCode} field id a.1 in
     (ap is_id (sym same) ∙ a.0, same)
+
+-- ---- institutions
+
+-- the name of an institution, where there is one
+abbrev pub IsHome : Option (List ℕ) → Type 0
+IsHome home = (name : List ℕ) → home ≡ Some name → is_institution name ≡ true
+
+institution_short : (name : List ℕ) → is_institution name ≡ true → length name ≤ 128
+unfolding is_institution
+institution_short name e = (name_parts is_institution_char name e).short
+
+institution_word : (name : List ℕ) → is_institution name ≡ true → IsWord name
+unfolding is_institution
+institution_word name e = name_word is_institution_char name refl refl (name_parts is_institution_char name e)
+
+pub institution_takes : (field home : Option (List ℕ)) → institution_of field ≡ Ok home → IsHome home × (field ≡ home)
+institution_takes None home e =
+    let same : None ≡ home = ok_is {E = LineCode} None home e in
+    (λ name is. absurd (cc (same, is)), same)
+institution_takes (Some field) home e =
+    let a = guard_ok (is_institution field) Id (Ok (Some field)) home e in
+    let same : Some field ≡ home = ok_is {E = LineCode} (Some field) home a.1 in
+    (λ name is. subst (λ (n : List ℕ). is_institution n ≡ true) (same_Some field name (same ∙ is)) a.0, same)
+
+pub institution_again : (home : Option (List ℕ)) → IsHome home → institution_of home ≡ Ok home
+institution_again None is = refl
+institution_again (Some name) is = rw (is name refl) refl
+
+pub home_words : (home : Option (List ℕ)) → IsHome home → AllWords (option_to_list home)
+home_words None is = tt
+home_words (Some name) is = (institution_word name (is name refl), tt)
+
+pub home_short : (w : List ℕ) (home : Option (List ℕ)) → IsHome home → length (with_spaces (w ∷ option_to_list home)) ≤ length w + 129
+home_short w None is = omega (arith, length-with_spaces_one w)
+home_short w (Some name) is = omega (arith, length-with_spaces_more w name [], length-with_spaces_one name, institution_short name (is name refl))

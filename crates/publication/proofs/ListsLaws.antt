@@ -14,7 +14,7 @@ use Rattle.publication.specs.RulesLists.{AreLists}
 use Rattle.publication.specs.RulesReading.{paper_of, reviewer_of, pair_of, lists_at}
 use Rattle.publication.specs.RulesText.{paper_line, reviewer_line, pair_line}
 use Rattle.publication.proofs.PaperLaws.{FitsPaper, paper_spells, papers_are}
-use Rattle.publication.proofs.ReviewerLaws.{FitsReviewer, reviewer_spells, reviewers_are, reviewers_alone}
+use Rattle.publication.proofs.ReviewerLaws.{FitsReviewer, reviewer_spells, reviewers_are}
 use Rattle.publication.proofs.PairLaws.{FitsPair, pair_spells, pairs_are}
 
 abbrev papers_at : Cursor → Result (List RulePaper × Cursor) TextFault
@@ -53,6 +53,5 @@ lists_from ps rs es papers reviewers few fewer some n m from_papers from_reviewe
     record {
       papers = papers_are ps few (along_from paper_of FitsPaper paper_line paper_spells [] ps from_papers);
       reviewers = reviewers_are rs fewer (along_from reviewer_of FitsReviewer reviewer_line reviewer_spells [] rs from_reviewers);
-      alone = reviewers_alone rs (along_from reviewer_of FitsReviewer reviewer_line reviewer_spells [] rs from_reviewers);
       pairs = pairs_are (length ps) (length rs) es some (along_from (pair_of (length ps) (length rs)) (FitsPair (length ps) (length rs)) pair_line (pair_spells (length ps) (length rs) (omega (arith, few)) (omega (arith, fewer))) [] es pairs);
     }

@@ -37,12 +37,12 @@ below_held pairs v small = grind (arith, nat_tests)
 weight_held : (v : ℕ) → (nat_le 1 (held v) && nat_le (held v) MOST_TICKETS) ≡ (nat_le 1 v && nat_le v MOST_TICKETS)
 weight_held v = grind (arith, nat_tests)
 
-all_held : (pairs : ℕ) (ps : List (List ℕ)) → pairs < 2 ^ 32
+pub all_held : (pairs : ℕ) (ps : List (List ℕ)) → pairs < 2 ^ 32
     → list_all (λ place. nat_lt place pairs) (map (λ part. held (value part)) ps) ≡ list_all (λ place. nat_lt place pairs) (map value ps)
 all_held pairs [] small = refl
 all_held pairs (p ∷ ps) small = rw (below_held pairs (value p) small, all_held pairs ps small) refl
 
-same_places : (pairs : ℕ) (ps : List (List ℕ)) → pairs < 2 ^ 32 → list_all (λ place. nat_lt place pairs) (map value ps) ≡ true
+pub same_places : (pairs : ℕ) (ps : List (List ℕ)) → pairs < 2 ^ 32 → list_all (λ place. nat_lt place pairs) (map value ps) ≡ true
     → map (λ part. held (value part)) ps ≡ map value ps
 same_places pairs [] small h = refl
 same_places pairs (p ∷ ps) small h =

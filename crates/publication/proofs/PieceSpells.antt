@@ -25,7 +25,7 @@ pub record FitsPiece (pairs : ℕ) (before : List Piece) (piece : Piece) : Type 
   pub behind : stands_behind before piece.pairs ≡ true
 
 -- canonical numbers are the decimal texts of their values
-spelled : (pairs : ℕ) (ps : List (List ℕ)) → pairs < 2 ^ 32 → list_all is_canonical ps ≡ true → list_all (λ place. nat_lt place pairs) (map value ps) ≡ true
+pub spelled : (pairs : ℕ) (ps : List (List ℕ)) → pairs < 2 ^ 32 → list_all is_canonical ps ≡ true → list_all (λ place. nat_lt place pairs) (map value ps) ≡ true
     → ps ≡ map decimal (map value ps)
 spelled pairs [] small c h = refl
 spelled pairs (p ∷ ps) small c h =
@@ -36,12 +36,12 @@ spelled pairs (p ∷ ps) small c h =
     ap (λ (q : List ℕ). q ∷ ps) first ∙ ap (λ (qs : List (List ℕ)). decimal (value p) ∷ qs) (spelled pairs ps small canonical.1 low.1)
 
 -- places below the number of pairs, in decimal digits
-record AreSpelled (xs : List ℕ) : Type 0 where
-  canonical : list_all is_canonical (map decimal xs) ≡ true
-  values : map value (map decimal xs) ≡ xs
-  words : AllWords (map decimal xs)
+pub record AreSpelled (xs : List ℕ) : Type 0 where
+  pub canonical : list_all is_canonical (map decimal xs) ≡ true
+  pub values : map value (map decimal xs) ≡ xs
+  pub words : AllWords (map decimal xs)
 
-are_spelled : (pairs : ℕ) (xs : List ℕ) → pairs < 2 ^ 32 → list_all (λ place. nat_lt place pairs) xs ≡ true → AreSpelled xs
+pub are_spelled : (pairs : ℕ) (xs : List ℕ) → pairs < 2 ^ 32 → list_all (λ place. nat_lt place pairs) xs ≡ true → AreSpelled xs
 are_spelled pairs [] small h = record { canonical = refl; values = refl; words = tt }
 are_spelled pairs (x ∷ xs) small h =
     let low = and_parts (nat_lt x pairs) (list_all (λ place. nat_lt place pairs) xs) h in
@@ -71,7 +71,7 @@ few_places pairs [] a h = omega arith
 few_places pairs (x ∷ xs) a h = omega (arith, ascending_few x pairs xs a h)
 
 -- a line of numbers of at most six digits
-short_line : (w : List ℕ) (pairs : ℕ) (xs : List ℕ) → pairs ≤ 1000000 → list_all (λ place. nat_lt place pairs) xs ≡ true
+pub short_line : (w : List ℕ) (pairs : ℕ) (xs : List ℕ) → pairs ≤ 1000000 → list_all (λ place. nat_lt place pairs) xs ≡ true
     → length (with_spaces (w ∷ map decimal xs)) ≤ length w + 7 * length xs
 short_line w pairs [] few h = omega (arith, length-with_spaces_one w)
 short_line w pairs (x ∷ xs) few h =

@@ -3,29 +3,28 @@ use Rattle.std.proofs.Common.{◌≡◌, ℕ, zero, suc, ◌+◌, ◌-◌, ◌^�
 use Rattle.std.specs.Prelude.{decimal, option_to_list}
 use Rattle.std.specs.Ordering.{is_lt}
 use Rattle.match_rules.specs.declared.rules.RuleReviewer.{RuleReviewer}
-use Rattle.match_rules.specs.Id.{is_id}
+use Rattle.match_rules.specs.Id.{is_id, is_institution}
 use Rattle.match_rules.specs.Rules.{AreReviewers, reviewer_in, no_reviewer, id_cmp}
 use Rattle.text_lines.specs.declared.fault.LineCode.{LineCode}
 use Rattle.text_lines.specs.declared.fault.LineCode.TheVariants.{Form, Number, Range, Id, Order}
-use Rattle.text_lines.specs.Fields.{fields, with_spaces, three_of}
+use Rattle.text_lines.specs.Fields.{fields, with_spaces, three_or_four_of}
 use Rattle.text_lines.specs.Forms.{in_form, only_if, number_from}
 use Rattle.text_lines.specs.Numbers.{is_canonical}
 use Rattle.text_lines.specs.Reading.{◌>>=◌}
 use Rattle.text_lines.specs.Texts.{AllAlong}
-use Rattle.text_lines.proofs.FormLaws.{three_fields_spell, number_from_takes, number_from_again}
+use Rattle.text_lines.proofs.FormLaws.{three_or_four_fields_spell, three_or_four_of_again, number_from_takes, number_from_again}
 use Rattle.text_lines.proofs.NumberLaws.{number_again}
 use Rattle.text_lines.proofs.TextLaws.{Spells, IsLine, bind_ok, guard_ok, ok_is, along_at, along_from_at}
 use Rattle.text_lines.proofs.WordLaws.{AllWords, fields-with_spaces, words_line, number_word, number_short, length-with_spaces_one, length-with_spaces_more}
-use Rattle.publication.specs.RulesLists.{AreAlone}
-use Rattle.publication.specs.RulesReading.{id_of, loads_of, reviewer_of, reviewer_fields, reviewer_with, is_reviewer_behind}
+use Rattle.publication.specs.RulesReading.{id_of, institution_of, loads_of, reviewer_of, reviewer_fields, reviewer_with, is_reviewer_behind}
 use Rattle.publication.specs.RulesText.{reviewer_line}
-use Rattle.publication.proofs.IdLaws.{id_word, id_short, id_of_takes}
+use Rattle.publication.proofs.IdLaws.{IsHome, id_word, id_short, id_of_takes, institution_takes, institution_again, home_words, home_short}
 use Rattle.publication.proofs.LastLaws.{behind_at, behind_each, less_is}
 
 -- a reviewer that may stand behind these
 pub record FitsReviewer (before : List RuleReviewer) (reviewer : RuleReviewer) : Type 0 where
   pub id : is_id reviewer.id ≡ true
-  pub alone : reviewer.institution ≡ None
+  pub home : IsHome reviewer.institution
   pub loads : reviewer.least ≤ reviewer.greatest
   pub most : reviewer.greatest ≤ 1500
   pub order : is_reviewer_behind before reviewer.id ≡ true
@@ -51,48 +50,55 @@ loads_again : (least greatest : ℕ) → least ≤ greatest → greatest ≤ 150
 loads_again least greatest ordered within =
     rw (number_from_again 0 1500 greatest (omega arith) (omega arith) within, number_from_again 0 greatest least (omega arith) (omega arith) ordered, (number_again least (omega arith)).0) refl
 
-spelled_three : (line a b c x y z : List ℕ) → line ≡ with_spaces (a ∷ b ∷ c ∷ []) → a ≡ x → b ≡ y → c ≡ z → line ≡ with_spaces (x ∷ y ∷ z ∷ [])
-spelled_three line a b c x y z e p q r = e ∙ rw (p, q, r) refl
+abbrev spelled_in : List ℕ → List ℕ → List ℕ → Option (List ℕ) → List ℕ
+spelled_in id least greatest home = with_spaces (id ∷ least ∷ greatest ∷ option_to_list home)
+
+spelled_same : (line a b c x y z : List ℕ) (d home : Option (List ℕ)) → line ≡ spelled_in a b c d → a ≡ x → b ≡ y → c ≡ z → d ≡ home → line ≡ spelled_in x y z home
+spelled_same line a b c x y z d home e p q r t = e ∙ rw (p, q, r, t) refl
 
 abbrev spelled : RuleReviewer → List ℕ
-spelled r = with_spaces (r.id ∷ decimal r.least ∷ decimal r.greatest ∷ option_to_list r.institution)
+spelled r = spelled_in r.id (decimal r.least) (decimal r.greatest) r.institution
 
 reviewer_sound : (before : List RuleReviewer) (line : List ℕ) (reviewer : RuleReviewer) → reviewer_of before line ≡ Ok reviewer → FitsReviewer before reviewer × (line ≡ reviewer_line reviewer)
 unfolding reviewer_of reviewer_line
 reviewer_sound before line reviewer e =
-    let a = bind_ok (in_form (three_of (fields line))) (λ f. reviewer_fields before f) reviewer e in
-    let b = bind_ok (loads_of a.0.1 a.0.2) (λ loads. reviewer_with before a.0.0 loads) reviewer a.2 in
+    let a = bind_ok (in_form (three_or_four_of (fields line))) (λ f. reviewer_fields before f) reviewer e in
+    let b = bind_ok (loads_of a.0.1 a.0.2) (λ loads. reviewer_with before a.0.0 a.0.3 loads) reviewer a.2 in
     let l = loads_take a.0.1 a.0.2 b.0 b.1 in
-    let d = bind_ok (id_of a.0.0) (λ name. only_if (is_reviewer_behind before name) Order (Ok (record { id = name; institution = None; least = b.0.0; greatest = b.0.1 }))) reviewer b.2 in
+    let d = bind_ok (id_of a.0.0) (λ name. institution_of a.0.3 >>= λ home. only_if (is_reviewer_behind before name) Order (Ok (record { id = name; institution = home; least = b.0.0; greatest = b.0.1 }))) reviewer b.2 in
     let i = id_of_takes a.0.0 d.0 d.1 in
-    let made : RuleReviewer = record { id = d.0; institution = None; least = b.0.0; greatest = b.0.1 } in
-    let o = guard_ok (is_reviewer_behind before d.0) Order (Ok made) reviewer d.2 in
+    let h = bind_ok (institution_of a.0.3) (λ home. only_if (is_reviewer_behind before d.0) Order (Ok (record { id = d.0; institution = home; least = b.0.0; greatest = b.0.1 }))) reviewer d.2 in
+    let t = institution_takes a.0.3 h.0 h.1 in
+    let made : RuleReviewer = record { id = d.0; institution = h.0; least = b.0.0; greatest = b.0.1 } in
+    let o = guard_ok (is_reviewer_behind before d.0) Order (Ok made) reviewer h.2 in
     let same : made ≡ reviewer = ok_is {E = LineCode} made reviewer o.1 in
-    let fits : FitsReviewer before made = record { id = i.0; alone = refl; loads = l.ordered; most = l.within; order = o.0 } in
-    let text : line ≡ spelled made = spelled_three line a.0.0 a.0.1 a.0.2 d.0 (decimal b.0.0) (decimal b.0.1) (three_fields_spell line a.0 a.1) i.1 l.least_text l.greatest_text in
+    let fits : FitsReviewer before made = record { id = i.0; home = t.0; loads = l.ordered; most = l.within; order = o.0 } in
+    let text : line ≡ spelled made = spelled_same line a.0.0 a.0.1 a.0.2 d.0 (decimal b.0.0) (decimal b.0.1) a.0.3 h.0 (three_or_four_fields_spell line a.0 a.1) i.1 l.least_text l.greatest_text t.1 in
     subst (λ (r : RuleReviewer). FitsReviewer before r × (line ≡ spelled r)) same (fits, text)
 
--- a reviewer without institution has three fields
-alone_line : (reviewer : RuleReviewer) → reviewer.institution ≡ None → reviewer_line reviewer ≡ with_spaces (reviewer.id ∷ decimal reviewer.least ∷ decimal reviewer.greatest ∷ [])
-unfolding reviewer_line
-alone_line reviewer alone = rw alone refl
-
-alone_is : (reviewer : RuleReviewer) → reviewer.institution ≡ None → record { id = reviewer.id; institution = None; least = reviewer.least; greatest = reviewer.greatest } ≡ reviewer
-alone_is reviewer alone = ap (λ (o : Option (List ℕ)). let r : RuleReviewer = record reviewer { institution = o } in r) (sym alone)
+reviewer_words : (before : List RuleReviewer) (reviewer : RuleReviewer) → FitsReviewer before reviewer → AllWords (reviewer.id ∷ decimal reviewer.least ∷ decimal reviewer.greatest ∷ option_to_list reviewer.institution)
+reviewer_words before reviewer fits =
+    (id_word reviewer.id fits.id, (number_word reviewer.least (omega (arith, fits.loads, fits.most)), (number_word reviewer.greatest (omega (arith, fits.most)), home_words reviewer.institution fits.home)))
 
 reviewer_complete : (before : List RuleReviewer) (reviewer : RuleReviewer) → FitsReviewer before reviewer → reviewer_of before (reviewer_line reviewer) ≡ Ok reviewer
-unfolding reviewer_of
+unfolding reviewer_of reviewer_line
 reviewer_complete before reviewer fits =
-    let words : AllWords (reviewer.id ∷ decimal reviewer.least ∷ decimal reviewer.greatest ∷ []) = (id_word reviewer.id fits.id, (number_word reviewer.least (omega (arith, fits.loads, fits.most)), (number_word reviewer.greatest (omega (arith, fits.most)), tt))) in
-    rw (alone_line reviewer fits.alone, fields-with_spaces reviewer.id (decimal reviewer.least ∷ decimal reviewer.greatest ∷ []) words, loads_again reviewer.least reviewer.greatest fits.loads fits.most, fits.id, fits.order)
-    (ap (λ (r : RuleReviewer). Ok r) (alone_is reviewer fits.alone))
+    rw (
+      fields-with_spaces reviewer.id (decimal reviewer.least ∷ decimal reviewer.greatest ∷ option_to_list reviewer.institution) (reviewer_words before reviewer fits),
+      three_or_four_of_again reviewer.id (decimal reviewer.least) (decimal reviewer.greatest) reviewer.institution,
+      loads_again reviewer.least reviewer.greatest fits.loads fits.most,
+      fits.id,
+      institution_again reviewer.institution fits.home,
+      fits.order,
+    ) refl
 
 reviewer_is_line : (before : List RuleReviewer) (reviewer : RuleReviewer) → FitsReviewer before reviewer → IsLine (reviewer_line reviewer)
+unfolding reviewer_line
 reviewer_is_line before reviewer fits =
     let low : reviewer.least < 2 ^ 64 = omega (arith, fits.loads, fits.most) in
     let high : reviewer.greatest < 2 ^ 64 = omega (arith, fits.most) in
-    rw (alone_line reviewer fits.alone) (words_line (reviewer.id ∷ decimal reviewer.least ∷ decimal reviewer.greatest ∷ []) (id_word reviewer.id fits.id, (number_word reviewer.least low, (number_word reviewer.greatest high, tt)))
-    (omega (arith, id_short reviewer.id fits.id, number_short reviewer.least low, number_short reviewer.greatest high, length-with_spaces_more reviewer.id (decimal reviewer.least) (decimal reviewer.greatest ∷ []), length-with_spaces_more (decimal reviewer.least) (decimal reviewer.greatest) [], length-with_spaces_one (decimal reviewer.greatest))))
+    words_line (reviewer.id ∷ decimal reviewer.least ∷ decimal reviewer.greatest ∷ option_to_list reviewer.institution) (reviewer_words before reviewer fits)
+    (omega (arith, id_short reviewer.id fits.id, number_short reviewer.least low, number_short reviewer.greatest high, length-with_spaces_more reviewer.id (decimal reviewer.least) (decimal reviewer.greatest ∷ option_to_list reviewer.institution), length-with_spaces_more (decimal reviewer.least) (decimal reviewer.greatest) (option_to_list reviewer.institution), home_short (decimal reviewer.greatest) reviewer.institution fits.home))
 
 pub reviewer_spells : Spells reviewer_of FitsReviewer reviewer_line
 reviewer_spells = record { sound = reviewer_sound; complete = reviewer_complete; lines = reviewer_is_line }
@@ -110,16 +116,13 @@ reviewers_are reviewers few all =
       ids = λ r lt. (at r all lt).id;
       ascending = λ r lt. less_is _ (sym (behind_at id_test reviewers r no_reviewer (omega arith)) ∙ (at (r + 1) all lt).order);
       loads = λ r lt. ((at r all lt).loads, (at r all lt).most);
-      institutions = λ r name lt is. let none = (at r all lt).alone in absurd (cc (none, is));
+      institutions = λ r name lt is. (at r all lt).home name is;
     }
 
-pub reviewers_alone : (reviewers : List RuleReviewer) → AllAlong FitsReviewer [] reviewers → AreAlone reviewers
-reviewers_alone reviewers all = λ r lt. (along_at FitsReviewer [] reviewers no_reviewer r all lt).alone
-
-pub reviewers_along : (reviewers : List RuleReviewer) → AreReviewers reviewers → AreAlone reviewers → AllAlong FitsReviewer [] reviewers
-reviewers_along reviewers are alone = along_from_at FitsReviewer [] reviewers no_reviewer (λ k lt. record {
+pub reviewers_along : (reviewers : List RuleReviewer) → AreReviewers reviewers → AllAlong FitsReviewer [] reviewers
+reviewers_along reviewers are = along_from_at FitsReviewer [] reviewers no_reviewer (λ k lt. record {
   id = are.ids k lt;
-  alone = alone k lt;
+  home = λ name is. are.institutions k name lt is;
   loads = (are.loads k lt).0;
   most = (are.loads k lt).1;
   order = behind_each id_test reviewers no_reviewer (λ j less. ap is_lt (are.ascending j less)) k lt;

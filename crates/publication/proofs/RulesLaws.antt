@@ -15,11 +15,11 @@ use Rattle.text_lines.specs.Texts.{line_of}
 use Rattle.text_lines.proofs.FormLaws.{fixed_spells, counted_spells, section_takes, section_again}
 use Rattle.text_lines.proofs.TextLaws.{IsLine, bind_ok, ok_is, item_takes, item_again}
 use Rattle.text_lines.proofs.WordLaws.{IsWord, ascii_word, ascii_line}
-use Rattle.publication.specs.RulesLists.{AreAlone, AreLists}
+use Rattle.publication.specs.RulesLists.{AreLists}
 use Rattle.publication.specs.RulesReading.{paper_of, reviewer_of, pair_of, head_at, lists_at, rules_at}
 use Rattle.publication.specs.RulesText.{paper_line, reviewer_line, pair_line, head_text, lists_text, rules_text}
 use Rattle.publication.proofs.PaperLaws.{FitsPaper, paper_spells, papers_are, papers_along}
-use Rattle.publication.proofs.ReviewerLaws.{FitsReviewer, reviewer_spells, reviewers_are, reviewers_alone, reviewers_along}
+use Rattle.publication.proofs.ReviewerLaws.{FitsReviewer, reviewer_spells, reviewers_are, reviewers_along}
 use Rattle.publication.proofs.PairLaws.{FitsPair, pair_spells, pairs_are, pairs_along}
 
 -- one text behind another
@@ -90,7 +90,6 @@ lists_takes at rest ps rs es e =
     let lists : AreLists a.0.0 b.0.0 c.0.0 = record {
       papers = papers_are a.0.0 papers.high papers.along;
       reviewers = reviewers_are b.0.0 reviewers.high reviewers.along;
-      alone = reviewers_alone b.0.0 reviewers.along;
       pairs = pairs_are (length a.0.0) (length b.0.0) c.0.0 pairs.high pairs.along;
     } in
     let text = seam at.bytes a.0.1.bytes c.0.1.bytes (section_text (codes "papers") paper_line a.0.0) _ papers.parts (seam a.0.1.bytes b.0.1.bytes c.0.1.bytes (section_text (codes "reviewers") reviewer_line b.0.0) _ reviewers.parts pairs.parts) in
@@ -106,14 +105,14 @@ lists_again ps rs es number rest are =
     let few = are.papers.few in
     let fewer = are.reviewers.few in
     let papers = section_again (codes "papers") 0 1500 paper_of FitsPaper paper_line paper_spells papers_word (lit≤ tt) (lit< tt) ps number (r ++ (q ++ rest)) (omega arith) few (papers_along ps are.papers) in
-    let reviewers = section_again (codes "reviewers") 0 1500 reviewer_of FitsReviewer reviewer_line reviewer_spells reviewers_word (lit≤ tt) (lit< tt) rs papers.0 (q ++ rest) (omega arith) fewer (reviewers_along rs are.reviewers are.alone) in
+    let reviewers = section_again (codes "reviewers") 0 1500 reviewer_of FitsReviewer reviewer_line reviewer_spells reviewers_word (lit≤ tt) (lit< tt) rs papers.0 (q ++ rest) (omega arith) fewer (reviewers_along rs are.reviewers) in
     let pairs = section_again (codes "pairs") 0 250000 (pair_of (length ps) (length rs)) (FitsPair (length ps) (length rs)) pair_line (pair_spells (length ps) (length rs) (omega (arith, few)) (omega (arith, fewer))) pairs_word (lit≤ tt) (lit< tt) es reviewers.0 rest (omega arith) are.pairs.few (pairs_along (length ps) (length rs) es are.pairs) in
     let regrouped : (p ++ (r ++ q)) ++ rest ≡ p ++ (r ++ (q ++ rest)) = append_assoc p (r ++ q) rest ∙ ap (λ (t : List ℕ). p ++ t) (append_assoc r q rest) in
     (pairs.0, rw (regrouped, papers.1, reviewers.1, pairs.1) refl)
 
 -- ---- the text
 
-pub rules_takes : (at rest : Cursor) (rules : RulesValue) → rules_at at ≡ Ok (rules, rest) → AreRules rules × AreAlone rules.reviewers × (at.bytes ≡ rules_text rules ++ rest.bytes)
+pub rules_takes : (at rest : Cursor) (rules : RulesValue) → rules_at at ≡ Ok (rules, rest) → AreRules rules × (at.bytes ≡ rules_text rules ++ rest.bytes)
 unfolding rules_at rules_text
 rules_takes at rest rules e =
     let a = bind_ok (head_at at) (λ limit. lists_at limit.1 >>= λ lists. due (fixed (codes "end rules")) lists.1 >>= λ end. Ok (rules_value limit.0 lists.0.0 lists.0.1 lists.0.2, end.1)) (rules, rest) e in
@@ -126,16 +125,16 @@ rules_takes at rest rules e =
     let are : AreRules made = record { tickets = refl; limit = head.0; papers = lists.0.papers; reviewers = lists.0.reviewers; pairs = lists.0.pairs } in
     let text = seam at.bytes a.0.1.bytes c.0.1.bytes (head_text MOST_TICKETS a.0.0) _ head.1 (seam a.0.1.bytes b.0.1.bytes c.0.1.bytes (lists_text b.0.0.0 b.0.0.1 b.0.0.2) _ lists.1 end.1) in
     let same = ok_is {E = TextFault} (made, c.0.1) (rules, rest) c.2 in
-    subst (λ (x : RulesValue × Cursor). AreRules x.0 × AreAlone x.0.reviewers × (at.bytes ≡ (head_text x.0.tickets x.0.limit ++ (lists_text x.0.papers x.0.reviewers x.0.pairs ++ line_of (codes "end rules"))) ++ x.1.bytes)) same (are, lists.0.alone, text)
+    subst (λ (x : RulesValue × Cursor). AreRules x.0 × (at.bytes ≡ (head_text x.0.tickets x.0.limit ++ (lists_text x.0.papers x.0.reviewers x.0.pairs ++ line_of (codes "end rules"))) ++ x.1.bytes)) same (are, text)
 
-pub rules_again : (rules : RulesValue) (number : ℕ) (rest : List ℕ) → AreRules rules → AreAlone rules.reviewers → (m : ℕ) × (rules_at (record { number = number; bytes = rules_text rules ++ rest }) ≡ Ok (rules, record { number = m; bytes = rest }))
+pub rules_again : (rules : RulesValue) (number : ℕ) (rest : List ℕ) → AreRules rules → (m : ℕ) × (rules_at (record { number = number; bytes = rules_text rules ++ rest }) ≡ Ok (rules, record { number = m; bytes = rest }))
 unfolding rules_at rules_text
-rules_again rules number rest are alone =
+rules_again rules number rest are =
     let h = head_text MOST_TICKETS rules.limit in
     let l = lists_text rules.papers rules.reviewers rules.pairs in
     let z = line_of (codes "end rules") in
     let head = head_again rules.limit number (l ++ (z ++ rest)) are.limit in
-    let lists = lists_again rules.papers rules.reviewers rules.pairs head.0 (z ++ rest) (record { papers = are.papers; reviewers = are.reviewers; alone = alone; pairs = are.pairs }) in
+    let lists = lists_again rules.papers rules.reviewers rules.pairs head.0 (z ++ rest) (record { papers = are.papers; reviewers = are.reviewers; pairs = are.pairs }) in
     let end = item_again _ _ _ (fixed_spells (codes "end rules") end_line) [] lists.0 rest tt tt in
     let regrouped : (h ++ (l ++ z)) ++ rest ≡ h ++ (l ++ (z ++ rest)) = append_assoc h (l ++ z) rest ∙ ap (λ (t : List ℕ). h ++ t) (append_assoc l z rest) in
     (following lists.0, rw (are.tickets, regrouped, head.1, lists.1, end) refl)

@@ -1,5 +1,5 @@
 -- The lines of an answer text: what each is read as, or the first code that applies to it.
-use Rattle.std.specs.Prelude.{ℕ, ℤ, ◌-◌, Bool, true, ◌&&◌, nat_le, nat_lt, List, [], ◌∷◌, length, map, slice_get, Result, Ok, Err, codes, decimal}
+use Rattle.std.specs.Prelude.{ℕ, ℤ, ◌-◌, Bool, true, ◌&&◌, nat_le, nat_lt, List, [], ◌∷◌, length, map, slice_get, Result, Ok, Err, if◌then◌else◌, codes, decimal}
 use Rattle.std.specs.Cmp.Lexicographic.{slice_cmp}
 use Rattle.std.specs.Fmt.{signed_decimal}
 use Rattle.std.specs.List.{list_all}
@@ -15,6 +15,12 @@ use Rattle.text_lines.specs.Fields.{fields, with_spaces, one_of, two_of}
 use Rattle.text_lines.specs.Forms.{in_form, only_if, integer_from, number_from}
 use Rattle.text_lines.specs.Numbers.{is_canonical, value}
 use Rattle.text_lines.specs.Reading.{◌>>=◌}
+use Rattle.publication.specs.declared.answer_forms.AnswerKind.{AnswerKind}
+use Rattle.publication.specs.declared.answer_forms.AnswerKind.TheVariants as kinds
+
+-- what the first line of an answer says that it is
+unfoldable pub kind_of : List ℕ → Result AnswerKind LineCode
+kind_of line = if bytes_eq line (codes "lottery 1") then Ok kinds.Lottery else (if bytes_eq line (codes "infeasible 1") then Ok kinds.Infeasible else Err Form)
 
 -- a line of one price
 unfoldable pub price_of : List ℕ → Result ℤ LineCode

@@ -1,5 +1,7 @@
--- Reading the text of a lottery of mode whole, line by line, for the rules that it answers.
+-- Reading the text of an answer of the mode whole, line by line, for the rules that it answers.
 use Rattle.std.specs.Prelude.{ℕ, ℤ, List, length, Result, Ok, codes}
+use Rattle.match_rules.specs.declared.answer.Answer.{Answer}
+use Rattle.match_rules.specs.declared.answer.Answer.TheVariants.{Lottery, Infeasible}
 use Rattle.match_rules.specs.declared.answer.Level.TheVariants.{Unasked}
 use Rattle.match_rules.specs.declared.answer.Mode.TheVariants.{Whole}
 use Rattle.match_rules.specs.declared.answer.Prices.{Prices}
@@ -13,17 +15,19 @@ use Rattle.text_lines.specs.Forms.{fixed, section_at}
 use Rattle.text_lines.specs.Reading.{◌>>=◌, Cursor, due, end_at}
 use Rattle.publication.specs.declared.sizes.Sizes.{Sizes}
 use Rattle.publication.specs.RulesReading.{rules_at}
-use Rattle.publication.specs.AnswerForms.{price_of, share_of, total_of, piece_of}
+use Rattle.publication.specs.declared.answer_forms.AnswerKind.{AnswerKind}
+use Rattle.publication.specs.declared.answer_forms.AnswerKind.TheVariants as kinds
+use Rattle.publication.specs.AnswerForms.{kind_of, price_of, share_of, total_of, piece_of}
+use Rattle.publication.specs.InfeasibleReading.{infeasible_at}
 
 -- how many papers, groups, reviewers and pairs rules have
 abbrev pub sizes_of : RulesValue → Sizes
 sizes_of rules = record { papers = length rules.papers; groups = group_count rules; reviewers = length rules.reviewers; pairs = length rules.pairs }
 
--- the lines that say what follows
+-- the mode and the threshold
 unfoldable pub answer_head_at : Cursor → Result (Unit {0} × Cursor) TextFault
 answer_head_at at = do
-  kind ← due (fixed (codes "lottery 1")) at
-  mode ← due (fixed (codes "mode whole")) kind.1
+  mode ← due (fixed (codes "mode whole")) at
   due (fixed (codes "threshold none")) mode.1
 
 -- one price for each of a count
@@ -62,6 +66,7 @@ worth_at sizes at = do
 abbrev pub winning_of : ℤ × Prices → List ℕ → List Piece → Winning
 winning_of worth shares pieces = record { mode = Whole; level = Unasked; total = worth.0; prices = worth.1; shares = shares; lottery = pieces }
 
+-- a lottery, behind its first line
 unfoldable pub lottery_at : Sizes → Cursor → Result (Winning × Cursor) TextFault
 lottery_at sizes at = do
   worth ← worth_at sizes at
@@ -69,10 +74,20 @@ lottery_at sizes at = do
   pieces ← pieces_at sizes shares.1
   Ok (winning_of worth.0 shares.0 pieces.0, pieces.1)
 
--- rules and a lottery for them, and nothing behind it
-unfoldable pub certificate_at : Cursor → Result (RulesValue × Winning) TextFault
+-- an answer of this kind, behind its first line
+abbrev pub answer_behind : Sizes → AnswerKind → Cursor → Result (Answer × Cursor) TextFault
+answer_behind sizes kinds.Lottery at = lottery_at sizes at >>= λ winning. Ok (Lottery winning.0, winning.1)
+answer_behind sizes kinds.Infeasible at = infeasible_at sizes at >>= λ blocked. Ok (Infeasible blocked.0, blocked.1)
+
+unfoldable pub answer_at : Sizes → Cursor → Result (Answer × Cursor) TextFault
+answer_at sizes at = do
+  kind ← due kind_of at
+  answer_behind sizes kind.0 kind.1
+
+-- rules and an answer to them, and nothing behind it
+unfoldable pub certificate_at : Cursor → Result (RulesValue × Answer) TextFault
 certificate_at at = do
   rules ← rules_at at
-  winning ← lottery_at (sizes_of rules.0) rules.1
-  end ← end_at winning.1
-  Ok (rules.0, winning.0)
+  answer ← answer_at (sizes_of rules.0) rules.1
+  end ← end_at answer.1
+  Ok (rules.0, answer.0)

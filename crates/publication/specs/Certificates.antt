@@ -1,14 +1,15 @@
--- Lotteries that match their rules, and the text of both.
+-- Answers of the mode whole that match their rules, and the text of both.
 use Rattle.std.specs.Prelude.{◌≡◌, ℕ, ◌<◌, ◌≤◌, ℤ, List, ◌++◌, length, All, Result, Ok, Err}
 use Rattle.match_rules.specs.declared.answer.Answer.{Answer}
 use Rattle.match_rules.specs.declared.answer.Answer.TheVariants.{Lottery, Infeasible}
+use Rattle.match_rules.specs.declared.answer.Blocked.{Blocked}
 use Rattle.match_rules.specs.declared.answer.Level.TheVariants.{Unasked}
 use Rattle.match_rules.specs.declared.answer.Mode.TheVariants.{Whole}
 use Rattle.match_rules.specs.declared.answer.Prices.{Prices}
 use Rattle.match_rules.specs.declared.answer.Winning.{Winning}
 use Rattle.match_rules.specs.declared.lottery.Piece.{Piece}
 use Rattle.match_rules.specs.declared.rules.TheConstants.{MOST_TICKETS}
-use Rattle.match_rules.specs.Answers.{ArePrices, IsWithin, most_total, WinningMatches}
+use Rattle.match_rules.specs.Answers.{AnswerMatches, AreMarks, ArePrices, IsWithin, most_total}
 use Rattle.match_rules.specs.Pieces.{ArePieces}
 use Rattle.match_rules.specs.Rules.{RulesValue, AreRules}
 use Rattle.publication.specs.declared.certificate.Certificate.{Certificate}
@@ -16,7 +17,7 @@ use Rattle.publication.specs.declared.certificate.ReadRefusal.{ReadRefusal}
 use Rattle.publication.specs.declared.certificate.ReadRefusal.TheVariants.{Memory, ReadFault, Text}
 use Rattle.publication.specs.declared.sizes.Sizes.{Sizes}
 use Rattle.publication.specs.AnswerText.{lottery_text}
-use Rattle.publication.specs.RulesLists.{AreAlone}
+use Rattle.publication.specs.InfeasibleText.{infeasible_text}
 use Rattle.publication.specs.RulesText.{rules_text}
 
 -- one price for each paper, group and reviewer
@@ -45,31 +46,52 @@ pub record IsLotteryFor (sizes : Sizes) (winning : Winning) : Type 0 where
   pub shares : AreSharesFor sizes winning.shares
   pub pieces : ArePiecesFor sizes winning.lottery
 
--- rules without institutions, and a whole lottery that matches them
-pub record IsCertificate (rules : RulesValue) (winning : Winning) : Type 0 where
+-- marked papers, groups and reviewers
+pub record AreMarked (sizes : Sizes) (papers groups reviewers : List ℕ) : Type 0 where
+  pub of_papers : AreMarks sizes.papers papers
+  pub of_groups : AreMarks sizes.groups groups
+  pub of_reviewers : AreMarks sizes.reviewers reviewers
+
+-- a cut with a list of each kind, and sums of 64 bits
+pub record IsBlockedFor (sizes : Sizes) (blocked : Blocked) : Type 0 where
+  pub marked : AreMarked sizes blocked.cut.papers blocked.cut.groups blocked.cut.reviewers
+  pub need : blocked.need ≤ 18446744073709551615
+  pub room : blocked.room ≤ 18446744073709551615
+
+-- an answer with a list of each size
+abbrev pub IsAnswerFor : Sizes → Answer → Type 0
+IsAnswerFor sizes (Lottery winning) = IsLotteryFor sizes winning
+IsAnswerFor sizes (Infeasible blocked) = IsBlockedFor sizes blocked
+
+-- an answer of the mode whole
+abbrev pub IsWholeAnswer : Answer → Type 0
+IsWholeAnswer (Lottery winning) = IsWhole winning
+IsWholeAnswer (Infeasible blocked) = blocked.mode ≡ Whole
+
+-- what the types of an answer keep by themselves: the pieces of a lottery, sums of 64 bits of a cut
+abbrev pub IsSpelled : Answer → Type 0
+IsSpelled (Lottery winning) = ArePieces winning.lottery
+IsSpelled (Infeasible blocked) = (blocked.need ≤ 18446744073709551615) × (blocked.room ≤ 18446744073709551615)
+
+-- rules, and an answer of the mode whole that matches them
+pub record IsCertificate (rules : RulesValue) (answer : Answer) : Type 0 where
   pub rules_kept : AreRules rules
-  pub alone : AreAlone rules.reviewers
-  pub whole : IsWhole winning
-  pub matching : WinningMatches rules winning
-  pub pieces : ArePieces winning.lottery
+  pub whole : IsWholeAnswer answer
+  pub matching : AnswerMatches rules answer
+  pub spelled : IsSpelled answer
 
--- the text of rules and of a lottery for them
-unfoldable pub certificate_text : RulesValue → Winning → List ℕ
-certificate_text rules winning = rules_text rules ++ lottery_text winning
+-- the text of an answer of the mode whole
+unfoldable pub answer_text : Answer → List ℕ
+answer_text (Lottery winning) = lottery_text winning
+answer_text (Infeasible blocked) = infeasible_text blocked
 
--- what matches its rules: a whole lottery, for now
-abbrev pub IsCertificateFor : RulesValue → Answer → Type 0
-IsCertificateFor rules (Lottery winning) = IsCertificate rules winning
-IsCertificateFor rules (Infeasible blocked) = ⊥
-
--- the bytes are the text of the rules and the answer
-abbrev pub IsTextOf : RulesValue → Answer → List ℕ → Type 0
-IsTextOf rules (Lottery winning) bytes = bytes ≡ certificate_text rules winning
-IsTextOf rules (Infeasible blocked) bytes = ⊥
+-- the text of rules and of an answer to them
+unfoldable pub certificate_text : RulesValue → Answer → List ℕ
+certificate_text rules answer = rules_text rules ++ answer_text answer
 
 -- these are read, unless memory ran out or the source failed
-abbrev pub ReadsAs : RulesValue → Winning → Result Certificate ReadRefusal → Type 0
-ReadsAs rules winning (Ok certificate) = (certificate.rules ≡ rules) × (certificate.answer ≡ Lottery winning)
-ReadsAs rules winning (Err Memory) = Unit {0}
-ReadsAs rules winning (Err ReadFault) = Unit {0}
-ReadsAs rules winning (Err Text) = ⊥
+abbrev pub ReadsAs : RulesValue → Answer → Result Certificate ReadRefusal → Type 0
+ReadsAs rules answer (Ok certificate) = (certificate.rules ≡ rules) × (certificate.answer ≡ answer)
+ReadsAs rules answer (Err Memory) = Unit {0}
+ReadsAs rules answer (Err ReadFault) = Unit {0}
+ReadsAs rules answer (Err Text) = ⊥

@@ -1,6 +1,9 @@
 pub mod AnswerForms
 pub mod AnswerReading
 pub mod AnswerText
+pub mod CutForms
+pub mod InfeasibleReading
+pub mod InfeasibleText
 pub mod RulesLists
 pub mod RulesReading
 pub mod RulesText

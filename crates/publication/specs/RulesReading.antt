@@ -6,12 +6,12 @@ use Rattle.match_rules.specs.declared.rules.RulePaper.{RulePaper}
 use Rattle.match_rules.specs.declared.rules.RuleReviewer.{RuleReviewer}
 use Rattle.match_rules.specs.declared.rules.RulePair.{RulePair}
 use Rattle.match_rules.specs.declared.rules.TheConstants.{MOST_TICKETS}
-use Rattle.match_rules.specs.Id.{is_id}
+use Rattle.match_rules.specs.Id.{is_id, is_institution}
 use Rattle.match_rules.specs.Rules.{RulesValue, rules_value, demand_total, id_cmp, most_score}
 use Rattle.text_lines.specs.declared.fault.LineCode.{LineCode}
 use Rattle.text_lines.specs.declared.fault.LineCode.TheVariants.{Form, Number, Range, Id, Order}
 use Rattle.text_lines.specs.declared.fault.TextFault.{TextFault}
-use Rattle.text_lines.specs.Fields.{fields, two_of, three_of, five_of}
+use Rattle.text_lines.specs.Fields.{fields, two_of, three_or_four_of, five_of}
 use Rattle.text_lines.specs.Forms.{fixed, in_form, only_if, number_from, integer_from, counted, section_at}
 use Rattle.text_lines.specs.Numbers.{is_canonical, is_canonical_signed, value, signed_value, size}
 use Rattle.text_lines.specs.Reading.{◌>>=◌, Cursor, due}
@@ -54,17 +54,22 @@ is_reviewer_behind before id = behind_last (λ (reviewer : RuleReviewer). is_lt 
 abbrev pub loads_of : List ℕ → List ℕ → Result (ℕ × ℕ) LineCode
 loads_of least greatest = only_if (is_canonical least) Number (number_from 0 1500 greatest >>= λ most. number_from 0 most least >>= λ fewest. Ok (fewest, most))
 
--- a reviewer with these loads
-abbrev pub reviewer_with : List RuleReviewer → List ℕ → ℕ × ℕ → Result RuleReviewer LineCode
-reviewer_with before id loads =
-    id_of id >>= λ name. only_if (is_reviewer_behind before name) Order (Ok (record { id = name; institution = None; least = loads.0; greatest = loads.1 }))
+-- the institution of a field, where there is one
+abbrev pub institution_of : Option (List ℕ) → Result (Option (List ℕ)) LineCode
+institution_of None = Ok None
+institution_of (Some field) = only_if (is_institution field) Id (Ok (Some field))
 
-abbrev pub reviewer_fields : List RuleReviewer → List ℕ × List ℕ × List ℕ → Result RuleReviewer LineCode
-reviewer_fields before f = loads_of f.1 f.2 >>= λ loads. reviewer_with before f.0 loads
+-- a reviewer with these loads
+abbrev pub reviewer_with : List RuleReviewer → List ℕ → Option (List ℕ) → ℕ × ℕ → Result RuleReviewer LineCode
+reviewer_with before id institution loads =
+    id_of id >>= λ name. institution_of institution >>= λ home. only_if (is_reviewer_behind before name) Order (Ok (record { id = name; institution = home; least = loads.0; greatest = loads.1 }))
+
+abbrev pub reviewer_fields : List RuleReviewer → List ℕ × List ℕ × List ℕ × Option (List ℕ) → Result RuleReviewer LineCode
+reviewer_fields before f = loads_of f.1 f.2 >>= λ loads. reviewer_with before f.0 f.3 loads
 
 -- the reviewer of a line, behind these reviewers
 unfoldable pub reviewer_of : List RuleReviewer → List ℕ → Result RuleReviewer LineCode
-reviewer_of before line = in_form (three_of (fields line)) >>= λ f. reviewer_fields before f
+reviewer_of before line = in_form (three_or_four_of (fields line)) >>= λ f. reviewer_fields before f
 
 -- ---- pairs
 

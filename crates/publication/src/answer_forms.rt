@@ -1,7 +1,7 @@
 // The lines of an answer text.
 ghost use Rattle.std.specs.Prelude.{◌≡◌, ◌<◌, ◌≤◌, ◌^◌, ◌&&◌, ◌++◌, ◌∷◌, [], true, ℕ, List, Result, Ok, IfOk, length};
 ghost use Rattle.text_lines.specs.Reading.{GivesLine};
-ghost use Rattle.publication.specs.AnswerForms.{price_of, share_of, total_of};
+ghost use Rattle.publication.specs.AnswerForms.{kind_of, price_of, share_of, total_of};
 
 use std::alloc::Global;
 use text_lines::{LineCode, LineError, LineForm, integer_from, number_from, one_field, two_fields};
@@ -9,6 +9,26 @@ use text_lines::{LineCode, LineError, LineForm, integer_from, number_from, one_f
 const MOST_PRICE: u64 = 10_000_000_000_000_000;
 
 const MOST_TOTAL: u64 = 1_000_000_000_000_000_000;
+
+/// What an answer is, by its first line.
+#[derive(Clone, Copy)]
+pub enum AnswerKind {
+    Lottery,
+    Infeasible,
+}
+
+#[tactic(auto, unfolding(crate::specs::AnswerForms::kind_of))]
+fn kind_of(line: &str) -> Result<AnswerKind, LineCode>
+    ensures { result ≡ kind_of line.now }
+{
+    if line == "lottery 1" {
+        return Ok(AnswerKind::Lottery);
+    }
+    if line == "infeasible 1" {
+        return Ok(AnswerKind::Infeasible);
+    }
+    Err(LineCode::Form)
+}
 
 #[tactic(auto, unfolding(crate::specs::AnswerForms::price_of))]
 fn price_of(line: &str) -> Result<i64, LineCode>
@@ -41,6 +61,27 @@ fn total_of(line: &str) -> Result<i64, LineCode>
         return Err(LineCode::Form);
     }
     integer_from(number, MOST_TOTAL)
+}
+
+/// The first line of an answer.
+#[derive(Drop)]
+pub struct KindLine {}
+
+impl LineForm for KindLine {
+    type Item = AnswerKind;
+
+    ghost ready = { λ form before. Unit {0} };
+
+    ghost reads = { λ form before line. kind_of line };
+
+    fn read(
+        &mut self,
+        _alloc: Global,
+        _before: &[AnswerKind],
+        line: &str,
+    ) -> Result<AnswerKind, LineError> {
+        Ok(kind_of(line)?)
+    }
 }
 
 /// A line of one price, in 10^-6 of a score.

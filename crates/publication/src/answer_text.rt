@@ -1,4 +1,4 @@
-// Reading the text of a lottery, for the rules that it answers.
+// Reading the text of a lottery, behind its first line, for the rules that it answers.
 ghost use Rattle.std.specs.Prelude.{◌≡◌, ◌≤◌, IsSome, IfOk, List, ℤ, Result, Ok, codes, length};
 ghost use Rattle.edge_io.specs.Told.{told, TellsNoMore};
 ghost use Rattle.match_rules.specs.Answers.{ArePrices, IsWithin, most_total};
@@ -27,7 +27,6 @@ fn read_head<S: Source>(alloc: Global, lines: &mut Lines, source: &mut S) -> Res
     ensures untold { TellsNoMore (S.left source.old) (S.left source.new) }
     ensures cause { FaultHasCause (S.faults source.old) (S.faults source.new) result }
 {
-    read_words(alloc, lines, source, "lottery 1")?;
     read_words(alloc, lines, source, "mode whole")?;
     read_words(alloc, lines, source, "threshold none")
 }
@@ -136,7 +135,7 @@ fn read_worth<S: Source>(
     Ok(Worth { total, prices })
 }
 
-/// Reads the text of a lottery of the mode whole, for the rules that it answers.
+/// Reads the text of a lottery of the mode whole, behind its first line, for the rules that it answers.
 #[tactic(auto, unfolding(crate::specs::AnswerReading::lottery_at))]
 pub fn read_lottery<S: Source>(
     alloc: Global,

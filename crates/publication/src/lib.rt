@@ -1,9 +1,12 @@
 // The texts of rules and of answers: each has one spelling, and is read back from it alone.
 #![tactic(auto)]
 
+mod answer;
 mod answer_forms;
 mod answer_text;
 mod certificate;
+mod cut_forms;
+mod infeasible_text;
 mod numbers;
 mod pair_form;
 mod paper_form;

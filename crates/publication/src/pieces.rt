@@ -9,7 +9,8 @@ use match_rules::{MOST_TICKETS, Piece, Places};
 use std::alloc::Global;
 use text_lines::{LineCode, LineError, LineForm};
 
-fn is_ascending(places: &[u32]) -> bool
+/// Whether places strictly ascend.
+pub fn is_ascending(places: &[u32]) -> bool
     ensures { result ≡ ascends places.now }
 {
     let mut last: Option<u32> = None;
@@ -33,10 +34,11 @@ fn stands_behind(before: &[Piece], places: &[u32]) -> bool
     }
 }
 
-fn are_below(places: &[u32], pairs: u32) -> bool
-    ensures { result ≡ list_all (λ place. nat_lt place pairs) places.now }
+/// Whether places are below a count.
+pub fn are_below(places: &[u32], count: u32) -> bool
+    ensures { result ≡ list_all (λ place. nat_lt place count) places.now }
 {
-    places.iter().all(|place| *place < pairs)
+    places.iter().all(|place| *place < count)
 }
 
 fn is_in_range(pairs: u32, weight: u32, places: &[u32]) -> bool

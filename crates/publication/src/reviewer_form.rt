@@ -1,13 +1,14 @@
 // Lines of reviewers in the text of rules.
 ghost use Rattle.std.specs.Prelude.{◌≡◌, Bool, List, Result, Ok};
+ghost use Rattle.std.specs.Option.{option_map};
 ghost use Rattle.text_lines.specs.Reading.{GivesLine};
-ghost use Rattle.publication.specs.RulesReading.{id_of, loads_of, reviewer_of, is_reviewer_behind};
+ghost use Rattle.publication.specs.RulesReading.{id_of, institution_of, loads_of, reviewer_of, is_reviewer_behind};
 
-use match_rules::{IdFault, ReviewerId, RuleReviewer};
+use match_rules::{IdFault, Institution, ReviewerId, RuleReviewer};
 use std::alloc::Global;
-use text_lines::{LineCode, LineError, LineForm, is_canonical, number_from, three_fields};
+use text_lines::{LineCode, LineError, LineForm, is_canonical, number_from, three_or_four_fields};
 
-/// Lines of an id, a least and a greatest load.
+/// Lines of an id, a least and a greatest load, and an institution where there is one.
 #[derive(Drop)]
 pub struct ReviewerForm;
 
@@ -25,17 +26,18 @@ impl LineForm for ReviewerForm {
         before: &[RuleReviewer],
         line: &str,
     ) -> Result<RuleReviewer, LineError> {
-        let Some((id, least, greatest)) = three_fields(line) else {
+        let Some((id, least, greatest, institution)) = three_or_four_fields(line) else {
             return Err(LineError::Code(LineCode::Form));
         };
         let (least, greatest) = read_loads(least, greatest)?;
         let id = read_id(alloc, id)?;
+        let institution = read_institution(alloc, institution)?;
         if !is_reviewer_behind(before, &id) {
             return Err(LineError::Code(LineCode::Order));
         }
         Ok(RuleReviewer {
             id,
-            institution: None,
+            institution,
             least,
             greatest,
         })
@@ -59,6 +61,20 @@ fn read_id(alloc: Global, field: &str) -> Result<ReviewerId, LineError>
 {
     match ReviewerId::read(alloc, field) {
         Ok(id) => Ok(id),
+        Err(IdFault::BadId) => Err(LineError::Code(LineCode::Id)),
+        Err(IdFault::Memory) => Err(LineError::Memory),
+    }
+}
+
+// The institution of a field, where there is one.
+fn read_institution(alloc: Global, field: Option<&str>) -> Result<Option<Institution>, LineError>
+    ensures { GivesLine result (institution_of (option_map (λ text. text.now) field.entry)) }
+{
+    let Some(field) = field else {
+        return Ok(None);
+    };
+    match Institution::read(alloc, field) {
+        Ok(institution) => Ok(Some(institution)),
         Err(IdFault::BadId) => Err(LineError::Code(LineCode::Id)),
         Err(IdFault::Memory) => Err(LineError::Memory),
     }

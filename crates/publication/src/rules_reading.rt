@@ -4,7 +4,7 @@ ghost use Rattle.edge_io.specs.Told.{TellsNoMore};
 ghost use Rattle.match_rules.specs.Rules.{IsLimit, AreRules};
 ghost use Rattle.text_lines.specs.Reading.{Gives, FaultHasCause, cursor};
 ghost use Rattle.publication.specs.RulesReading.{head_at, lists_at, rules_at};
-ghost use Rattle.publication.specs.RulesLists.{AreAlone, AreLists};
+ghost use Rattle.publication.specs.RulesLists.{AreLists};
 
 use crate::pair_form::PairForm;
 use crate::paper_form::PaperForm;
@@ -86,7 +86,6 @@ pub fn read_rules<S: Source>(
 ) -> Result<Rules, ReadError>
     ensures reads { IsSome (S.left source.new) → Gives (λ rules. rules) result (cursor lines.new (S.left source.new)) (rules_at (cursor lines.old (S.left source.old))) }
     ensures kept { IfOk result AreRules }
-    ensures alone { IfOk result (λ rules. AreAlone rules.reviewers) }
     ensures untold { TellsNoMore (S.left source.old) (S.left source.new) }
     ensures cause { FaultHasCause (S.faults source.old) (S.faults source.new) result }
 {
