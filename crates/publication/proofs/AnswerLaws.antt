@@ -1,26 +1,22 @@
 -- The lines of prices, shares and the total: what is read is spelled so, and what is spelled so is read again.
-use Rattle.std.proofs.Common.{◌≡◌, ℕ, zero, suc, ◌+◌, ◌^◌, ◌<◌, ◌≤◌, Bool, true, false, cond, eqb, leb, List, [], ◌∷◌, ◌++◌, length, Option, None, Some, Result, Ok, Err, ℤ, pos, negsuc, neg_ℤ, ◌≤ℤ◌, refl, sym, ap, subst, ◌∙◌, arith, rules, lit<}
+use Rattle.std.proofs.Common.{◌≡◌, ℕ, ◌^◌, ◌<◌, ◌≤◌, Bool, true, false, eqb, List, [], ◌∷◌, length, Option, None, Some, Ok, ℤ, pos, negsuc, refl, sym, ap, subst, ◌∙◌, arith, rules, lit<}
 use Rattle.std.specs.Prelude.{decimal, codes, nat_abs}
 use Rattle.std.specs.Fmt.{signed_decimal}
 use Rattle.std.specs.Str.{bytes_eq}
-use Rattle.std.proofs.lemmas.Bool.{leb-true, le-leb, eqb-true}
 use Rattle.std.proofs.lemmas.Int.{ints}
 use Rattle.std.proofs.lemmas.Str.{IsUtf8-from_ascii}
 use lib.Signed.{mag}
 use Rattle.match_rules.specs.declared.rules.TheConstants.{MOST_TICKETS}
 use Rattle.match_rules.specs.Answers.{IsWithin, most_price, most_total}
 use Rattle.text_lines.specs.declared.lines.TheConstants.{LONGEST_LINE}
-use Rattle.text_lines.specs.declared.fault.LineCode.{LineCode}
-use Rattle.text_lines.specs.declared.fault.LineCode.TheVariants.{Form, Number, Range}
+use Rattle.text_lines.specs.declared.fault.LineCode.TheVariants.{Form}
 use Rattle.text_lines.specs.Fields.{fields, with_spaces, one_of, two_of}
-use Rattle.text_lines.specs.Forms.{in_form, only_if, integer_from, number_from}
-use Rattle.text_lines.specs.Numbers.{is_canonical_signed, signed_value, size, value}
-use Rattle.text_lines.specs.Reading.{◌>>=◌}
-use Rattle.text_lines.proofs.FormLaws.{integer_from_takes, integer_from_again, number_from_takes, number_from_again, two_fields_spell, same_words, words_same}
-use Rattle.text_lines.proofs.NumberLaws.{signed_takes, signed_again}
-use Rattle.text_lines.proofs.TextLaws.{Spells, IsLine, bind_ok, ok_is, guard_ok}
+use Rattle.text_lines.specs.Forms.{in_form, integer_from, number_from}
+use Rattle.text_lines.specs.Numbers.{signed_value, size, value}
+use Rattle.text_lines.proofs.FormLaws.{integer_from_takes, integer_from_again, number_from_takes, number_from_again, two_fields_spell, same_words}
+use Rattle.text_lines.proofs.TextLaws.{Spells, IsLine, bind_ok, guard_ok}
 use Rattle.text_lines.proofs.FieldLaws.{with_spaces-fields}
-use Rattle.text_lines.proofs.WordLaws.{IsWord, AllWords, fields-with_spaces, words_line, number_word, number_short, signed_word, signed_short, length-with_spaces_one, length-with_spaces_more}
+use Rattle.text_lines.proofs.WordLaws.{IsWord, fields-with_spaces, words_line, number_word, number_short, signed_word, signed_short, length-with_spaces_one, length-with_spaces_more}
 use Rattle.publication.specs.AnswerForms.{price_of, share_of, total_of, total_in, total_line}
 
 -- ---- signed numbers within a limit

@@ -1,6 +1,6 @@
 -- The lines of a cut and the first line of an answer: what is read is spelled so, and what is spelled so is read again.
-use Rattle.std.proofs.Common.{◌≡◌, ℕ, ◌+◌, ◌*◌, ◌^◌, ◌<◌, ◌≤◌, ◌⊎◌, inl, inr, Bool, true, false, cond, List, [], ◌∷◌, length, Option, None, Some, Result, Ok, Err, refl, sym, ap, subst, ◌∙◌, arith, lit≤}
-use Rattle.std.specs.Prelude.{All, map, decimal, nat_lt, codes}
+use Rattle.std.proofs.Common.{◌≡◌, ℕ, ◌^◌, ◌<◌, ◌≤◌, ◌⊎◌, inl, inr, Bool, true, false, cond, List, [], ◌∷◌, length, None, Some, Result, Ok, Err, refl, sym, ap, subst, ◌∙◌, arith, lit≤}
+use Rattle.std.specs.Prelude.{map, decimal, nat_lt, codes}
 use Rattle.std.specs.List.{list_all}
 use Rattle.std.specs.Str.{bytes_eq}
 use Rattle.match_rules.specs.declared.answer.Side.{Side}
@@ -39,9 +39,32 @@ two_take {A} line first second x y z e = by (bytes_eq line first) (bytes_eq line
 
 -- ---- the first line of an answer
 
-kind_line : AnswerKind → List ℕ
+unfoldable pub kind_line : AnswerKind → List ℕ
 kind_line kinds.Lottery = codes "lottery 1"
 kind_line kinds.Infeasible = codes "infeasible 1"
+
+kind_is : (line : List ℕ) (kind : AnswerKind) → ((line ≡ codes "lottery 1") × (kinds.Lottery ≡ kind)) ⊎ ((line ≡ codes "infeasible 1") × (kinds.Infeasible ≡ kind)) → line ≡ kind_line kind
+unfolding kind_line
+kind_is line kind (inl p) = rw (← p.1) p.0
+kind_is line kind (inr p) = rw (← p.1) p.0
+
+kind_again : (kind : AnswerKind) → kind_of (kind_line kind) ≡ Ok kind
+unfolding kind_of kind_line
+kind_again kinds.Lottery = refl
+kind_again kinds.Infeasible = refl
+
+kind_is_line : (kind : AnswerKind) → IsLine (kind_line kind)
+unfolding kind_line
+kind_is_line kinds.Lottery = ascii_line (codes "lottery 1") refl refl (lit≤ tt)
+kind_is_line kinds.Infeasible = ascii_line (codes "infeasible 1") refl refl (lit≤ tt)
+
+pub kind_spells : Spells {A = AnswerKind} (λ before. kind_of) (λ before kind. Unit {0}) kind_line
+unfolding kind_of
+kind_spells = record {
+  sound = λ before line kind e. (tt, kind_is line kind (two_take line (codes "lottery 1") (codes "infeasible 1") kinds.Lottery kinds.Infeasible kind e));
+  complete = λ before kind fits. kind_again kind;
+  lines = λ before kind fits. kind_is_line kind;
+}
 
 -- ---- the side
 
@@ -121,6 +144,10 @@ marks_take word count (w ∷ ps) places small e =
     let text : (w ∷ ps) ≡ word ∷ map decimal (map value ps) =
     ap (λ (q : List ℕ). q ∷ ps) (same_words w word a.0) ∙ ap (λ (qs : List (List ℕ)). word ∷ qs) (spelled count ps small b.0 c.0) in
     subst (λ (places : List ℕ). FitsMarks count places × ((w ∷ ps) ≡ word ∷ map decimal places)) is (fits, text)
+
+pub marks_found : (word : List ℕ) (count : ℕ) (line places : List ℕ) → count < 2 ^ 32 → marks_of word count line ≡ Ok places → AreMarks count places
+unfolding marks_of
+marks_found word count line places small e = marks_are count places (marks_take word count (fields line) places small e).0
 
 marks_again : (word : List ℕ) (count : ℕ) (places : List ℕ) → count < 2 ^ 32 → FitsMarks count places → marks_in word count (word ∷ map decimal places) ≡ Ok places
 marks_again word count places small fits =

@@ -15,4 +15,6 @@ pub mod FitLaws
 pub mod CutLaws
 pub mod LotteryReading
 pub mod LotteryLaws
+pub mod CutReading
+pub mod InfeasibleLaws
 pub mod CertificateLaws

@@ -1,5 +1,5 @@
 -- The three lists of rules, section by section.
-use Rattle.std.proofs.Common.{◌≡◌, ℕ, ◌<◌, ◌≤◌, ◌+◌, ◌^◌, List, [], length, Result, Ok, Err, refl, sym, ap, subst, ◌∙◌, arith}
+use Rattle.std.proofs.Common.{◌≡◌, ℕ, ◌≤◌, List, [], length, Result, Ok, refl, arith}
 use Rattle.std.specs.Prelude.{codes}
 use Rattle.match_rules.specs.declared.rules.RulePaper.{RulePaper}
 use Rattle.match_rules.specs.declared.rules.RuleReviewer.{RuleReviewer}

@@ -1,9 +1,7 @@
 -- A lottery is read as it is spelled.
-use Rattle.std.proofs.Common.{◌≡◌, ℕ, zero, suc, ◌+◌, ◌^◌, ◌<◌, ◌≤◌, Bool, true, false, List, [], ◌∷◌, ◌++◌, length, ℤ, Result, Ok, Err, refl, sym, ap, subst, ◌∙◌, append_assoc, arith, lit<, lit≤}
+use Rattle.std.proofs.Common.{◌≡◌, ℕ, ◌^◌, ◌<◌, ◌≤◌, List, [], ◌++◌, length, ℤ, Result, Ok, refl, ap, subst, ◌∙◌, append_assoc, arith, lit<, lit≤}
 use Rattle.std.specs.Prelude.{codes, decimal}
 use Rattle.std.specs.Fmt.{signed_decimal}
-use Rattle.match_rules.specs.declared.answer.Level.TheVariants.{Unasked}
-use Rattle.match_rules.specs.declared.answer.Mode.TheVariants.{Whole}
 use Rattle.match_rules.specs.declared.answer.Prices.{Prices}
 use Rattle.match_rules.specs.declared.answer.Winning.{Winning}
 use Rattle.match_rules.specs.declared.lottery.Piece.{Piece}
@@ -16,25 +14,25 @@ use Rattle.text_lines.specs.Texts.{line_of}
 use Rattle.text_lines.proofs.FormLaws.{fixed_spells, section_takes, section_again}
 use Rattle.text_lines.proofs.TextLaws.{IsLine, bind_ok, ok_is, item_takes, item_again}
 use Rattle.text_lines.proofs.WordLaws.{IsWord, ascii_word, ascii_line}
+use Rattle.publication.specs.declared.answer_forms.AnswerKind.{AnswerKind}
+use Rattle.publication.specs.declared.answer_forms.AnswerKind.TheVariants as kinds
 use Rattle.publication.specs.declared.sizes.Sizes.{Sizes}
 use Rattle.publication.specs.AnswerForms.{price_of, share_of, total_of, piece_of, total_line, piece_line}
 use Rattle.publication.specs.AnswerReading.{answer_head_at, price_list_at, prices_at, shares_at, pieces_at, worth_at, lottery_at, winning_of}
 use Rattle.publication.specs.AnswerText.{answer_head_text, price_list_text, prices_text, worth_text, shares_text, pieces_text, lottery_text}
 use Rattle.publication.specs.Certificates.{ArePricesFor, AreSharesFor, ArePiecesFor, IsLotteryFor, IsWhole}
 use Rattle.publication.proofs.AnswerLaws.{price_spells, share_spells, total_spells}
+use Rattle.publication.proofs.CutLaws.{kind_line}
 use Rattle.publication.proofs.FitLaws.{FitsPrice, FitsShare, prices_along, along_prices, shares_along, along_shares, pieces_along, along_pieces}
 use Rattle.publication.proofs.PieceSpells.{FitsPiece, piece_spells}
 use Rattle.publication.proofs.RulesLaws.{seam}
 
 -- how large the numbers of papers, groups, reviewers and pairs may be
 pub record AreSmall (sizes : Sizes) : Type 0 where
-  pub papers : sizes.papers < 2 ^ 64
-  pub of_groups : sizes.groups < 2 ^ 64
-  pub reviewers : sizes.reviewers < 2 ^ 64
+  pub papers : sizes.papers ≤ 250000
+  pub of_groups : sizes.groups ≤ 250000
+  pub reviewers : sizes.reviewers ≤ 250000
   pub pairs : sizes.pairs ≤ 250000
-
-kind_line : IsLine (codes "lottery 1")
-kind_line = ascii_line (codes "lottery 1") refl refl (lit≤ tt)
 
 mode_line : IsLine (codes "mode whole")
 mode_line = ascii_line (codes "mode whole") refl refl (lit≤ tt)
@@ -48,29 +46,36 @@ cut_line = ascii_line (codes "cut none") refl refl (lit≤ tt)
 end_line : IsLine (codes "end lottery")
 end_line = ascii_line (codes "end lottery") refl refl (lit≤ tt)
 
--- ---- the head
+-- ---- the head, of which the first line was read before
 
-head_takes : (at rest : Cursor) (unit : Unit {0}) → answer_head_at at ≡ Ok (unit, rest) → at.bytes ≡ answer_head_text ++ rest.bytes
-unfolding answer_head_at answer_head_text
+head_takes : (at rest : Cursor) (unit : Unit {0}) → answer_head_at at ≡ Ok (unit, rest) → line_of (kind_line kinds.Lottery) ++ at.bytes ≡ answer_head_text ++ rest.bytes
+unfolding answer_head_at answer_head_text kind_line
 head_takes at rest unit e =
-    let a = bind_ok (due (fixed (codes "lottery 1")) at) (λ kind. due (fixed (codes "mode whole")) kind.1 >>= λ mode. due (fixed (codes "threshold none")) mode.1) (unit, rest) e in
-    let b = bind_ok (due (fixed (codes "mode whole")) a.0.1) (λ mode. due (fixed (codes "threshold none")) mode.1) (unit, rest) a.2 in
-    let kind = item_takes _ _ _ (fixed_spells (codes "lottery 1") kind_line) [] at a.0.1 a.0.0 a.1 in
-    let mode = item_takes _ _ _ (fixed_spells (codes "mode whole") mode_line) [] a.0.1 b.0.1 b.0.0 b.1 in
-    let level = item_takes _ _ _ (fixed_spells (codes "threshold none") level_line) [] b.0.1 rest unit b.2 in
-    seam at.bytes a.0.1.bytes rest.bytes (line_of (codes "lottery 1")) _ kind.1 (seam a.0.1.bytes b.0.1.bytes rest.bytes (line_of (codes "mode whole")) _ mode.1 level.1)
+    let a = bind_ok (due (fixed (codes "mode whole")) at) (λ mode. due (fixed (codes "threshold none")) mode.1) (unit, rest) e in
+    let mode = item_takes _ _ _ (fixed_spells (codes "mode whole") mode_line) [] at a.0.1 a.0.0 a.1 in
+    let level = item_takes _ _ _ (fixed_spells (codes "threshold none") level_line) [] a.0.1 rest unit a.2 in
+    let k = line_of (codes "lottery 1") in
+    seam (k ++ at.bytes) at.bytes rest.bytes k _ refl (seam at.bytes a.0.1.bytes rest.bytes (line_of (codes "mode whole")) _ mode.1 level.1)
 
-head_again : (number : ℕ) (rest : List ℕ) → (m : ℕ) × (answer_head_at (record { number = number; bytes = answer_head_text ++ rest }) ≡ Ok (tt, record { number = m; bytes = rest }))
-unfolding answer_head_at answer_head_text
-head_again number rest =
+-- a text behind its first line, which is read at every number of a line
+abbrev pub ReadsBehind : {A : Type 0} → AnswerKind → (Cursor → Result (A × Cursor) TextFault) → A → List ℕ → List ℕ → Type 0
+ReadsBehind kind read x text rest =
+    (bytes : List ℕ) × (text ≡ line_of (kind_line kind) ++ bytes) × ((number : ℕ) → (m : ℕ) × (read (record { number = number; bytes = bytes }) ≡ Ok (x, record { number = m; bytes = rest })))
+
+head_again : (rest : List ℕ) → ReadsBehind kinds.Lottery answer_head_at tt (answer_head_text ++ rest) rest
+unfolding answer_head_at answer_head_text kind_line
+head_again rest =
     let k = line_of (codes "lottery 1") in
     let m = line_of (codes "mode whole") in
     let l = line_of (codes "threshold none") in
-    let kind = item_again _ _ _ (fixed_spells (codes "lottery 1") kind_line) [] number (m ++ (l ++ rest)) tt tt in
-    let mode = item_again _ _ _ (fixed_spells (codes "mode whole") mode_line) [] (following number) (l ++ rest) tt tt in
-    let level = item_again _ _ _ (fixed_spells (codes "threshold none") level_line) [] (following (following number)) rest tt tt in
-    let regrouped : (k ++ (m ++ l)) ++ rest ≡ k ++ (m ++ (l ++ rest)) = append_assoc k (m ++ l) rest ∙ ap (λ (t : List ℕ). k ++ t) (append_assoc m l rest) in
-    (following (following (following number)), rw (regrouped, kind, mode) level)
+    let regrouped : (k ++ (m ++ l)) ++ rest ≡ k ++ (m ++ (l ++ rest)) = append_assoc k (m ++ l) rest ∙ ap (λ (t : List ℕ). k ++ t) (append_assoc m l rest) in (
+      m ++ (l ++ rest),
+      regrouped,
+      λ number.
+          let mode = item_again _ _ _ (fixed_spells (codes "mode whole") mode_line) [] number (l ++ rest) tt tt in
+          let level = item_again _ _ _ (fixed_spells (codes "threshold none") level_line) [] (following number) rest tt tt in
+          (following (following number), rw mode level),
+    )
 
 -- ---- prices
 
@@ -101,9 +106,9 @@ prices_takes sizes at rest prices small e =
     let a = bind_ok (price_list_at (codes "paper-prices") sizes.papers at) (λ papers. price_list_at (codes "group-prices") sizes.groups papers.1 >>= λ groups. price_list_at (codes "reviewer-prices") sizes.reviewers groups.1 >>= λ reviewers. Ok (record { papers = papers.0; groups = groups.0; reviewers = reviewers.0 }, reviewers.1)) (prices, rest) e in
     let b = bind_ok (price_list_at (codes "group-prices") sizes.groups a.0.1) (λ groups. price_list_at (codes "reviewer-prices") sizes.reviewers groups.1 >>= λ reviewers. Ok (record { papers = a.0.0; groups = groups.0; reviewers = reviewers.0 }, reviewers.1)) (prices, rest) a.2 in
     let c = bind_ok (price_list_at (codes "reviewer-prices") sizes.reviewers b.0.1) (λ reviewers. Ok (record { papers = a.0.0; groups = b.0.0; reviewers = reviewers.0 }, reviewers.1)) (prices, rest) b.2 in
-    let first = list_takes (codes "paper-prices") sizes.papers at a.0.1 a.0.0 small.papers a.1 in
-    let second = list_takes (codes "group-prices") sizes.groups a.0.1 b.0.1 b.0.0 small.of_groups b.1 in
-    let third = list_takes (codes "reviewer-prices") sizes.reviewers b.0.1 c.0.1 c.0.0 small.reviewers c.1 in
+    let first = list_takes (codes "paper-prices") sizes.papers at a.0.1 a.0.0 (omega (arith, small.papers)) a.1 in
+    let second = list_takes (codes "group-prices") sizes.groups a.0.1 b.0.1 b.0.0 (omega (arith, small.of_groups)) b.1 in
+    let third = list_takes (codes "reviewer-prices") sizes.reviewers b.0.1 c.0.1 c.0.0 (omega (arith, small.reviewers)) c.1 in
     let made : Prices = record { papers = a.0.0; groups = b.0.0; reviewers = c.0.0 } in
     let are : ArePricesFor sizes made = record { papers = first.0; of_groups = second.0; reviewers = third.0 } in
     let text = seam at.bytes a.0.1.bytes c.0.1.bytes (price_list_text (codes "paper-prices") a.0.0) _ first.1 (seam a.0.1.bytes b.0.1.bytes c.0.1.bytes (price_list_text (codes "group-prices") b.0.0) _ second.1 third.1) in
@@ -117,15 +122,15 @@ prices_again sizes number prices rest small are =
     let p = price_list_text (codes "paper-prices") prices.papers in
     let g = price_list_text (codes "group-prices") prices.groups in
     let r = price_list_text (codes "reviewer-prices") prices.reviewers in
-    let first = list_again (codes "paper-prices") sizes.papers number prices.papers (g ++ (r ++ rest)) papers_word (lit≤ tt) small.papers are.papers in
-    let second = list_again (codes "group-prices") sizes.groups first.0 prices.groups (r ++ rest) groups_word (lit≤ tt) small.of_groups are.of_groups in
-    let third = list_again (codes "reviewer-prices") sizes.reviewers second.0 prices.reviewers rest reviewers_word (lit≤ tt) small.reviewers are.reviewers in
+    let first = list_again (codes "paper-prices") sizes.papers number prices.papers (g ++ (r ++ rest)) papers_word (lit≤ tt) (omega (arith, small.papers)) are.papers in
+    let second = list_again (codes "group-prices") sizes.groups first.0 prices.groups (r ++ rest) groups_word (lit≤ tt) (omega (arith, small.of_groups)) are.of_groups in
+    let third = list_again (codes "reviewer-prices") sizes.reviewers second.0 prices.reviewers rest reviewers_word (lit≤ tt) (omega (arith, small.reviewers)) are.reviewers in
     let regrouped : (p ++ (g ++ r)) ++ rest ≡ p ++ (g ++ (r ++ rest)) = append_assoc p (g ++ r) rest ∙ ap (λ (t : List ℕ). p ++ t) (append_assoc g r rest) in
     (third.0, rw (regrouped, first.1, second.1, third.1) refl)
 
 -- ---- the total and the prices
 
-worth_takes : (sizes : Sizes) (at rest : Cursor) (worth : ℤ × Prices) → AreSmall sizes → worth_at sizes at ≡ Ok (worth, rest) → IsWithin most_total worth.0 × ArePricesFor sizes worth.1 × (at.bytes ≡ worth_text worth.0 worth.1 ++ rest.bytes)
+worth_takes : (sizes : Sizes) (at rest : Cursor) (worth : ℤ × Prices) → AreSmall sizes → worth_at sizes at ≡ Ok (worth, rest) → IsWithin most_total worth.0 × ArePricesFor sizes worth.1 × (line_of (kind_line kinds.Lottery) ++ at.bytes ≡ worth_text worth.0 worth.1 ++ rest.bytes)
 unfolding worth_at worth_text
 worth_takes sizes at rest worth small e =
     let a = bind_ok (answer_head_at at) (λ head. due total_of head.1 >>= λ total. prices_at sizes total.1 >>= λ prices. Ok ((total.0, prices.0), prices.1)) (worth, rest) e in
@@ -134,22 +139,27 @@ worth_takes sizes at rest worth small e =
     let head = head_takes at a.0.1 a.0.0 a.1 in
     let total = item_takes _ _ _ total_spells [] a.0.1 b.0.1 b.0.0 b.1 in
     let prices = prices_takes sizes b.0.1 c.0.1 c.0.0 small c.1 in
-    let text = seam at.bytes a.0.1.bytes c.0.1.bytes answer_head_text _ head (seam a.0.1.bytes b.0.1.bytes c.0.1.bytes (line_of (total_line b.0.0)) _ total.1 prices.1) in
+    let text = seam (line_of (kind_line kinds.Lottery) ++ at.bytes) a.0.1.bytes c.0.1.bytes answer_head_text _ head (seam a.0.1.bytes b.0.1.bytes c.0.1.bytes (line_of (total_line b.0.0)) _ total.1 prices.1) in
     let same = ok_is {E = TextFault} ((b.0.0, c.0.0), c.0.1) (worth, rest) c.2 in
-    subst (λ (x : (ℤ × Prices) × Cursor). IsWithin most_total x.0.0 × ArePricesFor sizes x.0.1 × (at.bytes ≡ (answer_head_text ++ (line_of (total_line x.0.0) ++ prices_text x.0.1)) ++ x.1.bytes)) same (total.0, prices.0, text)
+    subst (λ (x : (ℤ × Prices) × Cursor). IsWithin most_total x.0.0 × ArePricesFor sizes x.0.1 × (line_of (kind_line kinds.Lottery) ++ at.bytes ≡ (answer_head_text ++ (line_of (total_line x.0.0) ++ prices_text x.0.1)) ++ x.1.bytes)) same (total.0, prices.0, text)
 
-worth_again : (sizes : Sizes) (number : ℕ) (total : ℤ) (prices : Prices) (rest : List ℕ) → AreSmall sizes → IsWithin most_total total → ArePricesFor sizes prices
-    → (m : ℕ) × (worth_at sizes (record { number = number; bytes = worth_text total prices ++ rest }) ≡ Ok ((total, prices), record { number = m; bytes = rest }))
+worth_again : (sizes : Sizes) (total : ℤ) (prices : Prices) (rest : List ℕ) → AreSmall sizes → IsWithin most_total total → ArePricesFor sizes prices
+    → ReadsBehind kinds.Lottery (worth_at sizes) (total, prices) (worth_text total prices ++ rest) rest
 unfolding worth_at worth_text
-worth_again sizes number total prices rest small within are =
+worth_again sizes total prices rest small within are =
     let h = answer_head_text in
     let t = line_of (total_line total) in
     let p = prices_text prices in
-    let first = head_again number (t ++ (p ++ rest)) in
-    let second = item_again _ _ _ total_spells [] first.0 (p ++ rest) total within in
-    let third = prices_again sizes (following first.0) prices rest small are in
-    let regrouped : (h ++ (t ++ p)) ++ rest ≡ h ++ (t ++ (p ++ rest)) = append_assoc h (t ++ p) rest ∙ ap (λ (x : List ℕ). h ++ x) (append_assoc t p rest) in
-    (third.0, rw (regrouped, first.1, second, third.1) refl)
+    let head = head_again (t ++ (p ++ rest)) in
+    let regrouped : (h ++ (t ++ p)) ++ rest ≡ h ++ (t ++ (p ++ rest)) = append_assoc h (t ++ p) rest ∙ ap (λ (x : List ℕ). h ++ x) (append_assoc t p rest) in (
+      head.0,
+      regrouped ∙ head.1,
+      λ number.
+          let first = head.2 number in
+          let second = item_again _ _ _ total_spells [] first.0 (p ++ rest) total within in
+          let third = prices_again sizes (following first.0) prices rest small are in
+          (third.0, rw (first.1, second, third.1) refl),
+    )
 
 -- ---- shares
 
@@ -205,7 +215,8 @@ pieces_again sizes number pieces rest small are =
 
 -- ---- the text
 
-pub lottery_takes : (sizes : Sizes) (at rest : Cursor) (winning : Winning) → AreSmall sizes → lottery_at sizes at ≡ Ok (winning, rest) → IsWhole winning × IsLotteryFor sizes winning × (at.bytes ≡ lottery_text winning ++ rest.bytes)
+pub lottery_takes : (sizes : Sizes) (at rest : Cursor) (winning : Winning) → AreSmall sizes → lottery_at sizes at ≡ Ok (winning, rest)
+    → IsWhole winning × IsLotteryFor sizes winning × (line_of (kind_line kinds.Lottery) ++ at.bytes ≡ lottery_text winning ++ rest.bytes)
 unfolding lottery_at lottery_text
 lottery_takes sizes at rest winning small e =
     let a = bind_ok (worth_at sizes at) (λ worth. shares_at sizes worth.1 >>= λ shares. pieces_at sizes shares.1 >>= λ pieces. Ok (winning_of worth.0 shares.0 pieces.0, pieces.1)) (winning, rest) e in
@@ -217,23 +228,28 @@ lottery_takes sizes at rest winning small e =
     let made = winning_of a.0.0 b.0.0 c.0.0 in
     let whole : IsWhole made = record { mode = refl; level = refl } in
     let are : IsLotteryFor sizes made = record { total = worth.0; prices = worth.1; shares = shares.0; pieces = pieces.0 } in
-    let text = seam at.bytes a.0.1.bytes c.0.1.bytes (worth_text a.0.0.0 a.0.0.1) _ worth.2 (seam a.0.1.bytes b.0.1.bytes c.0.1.bytes (shares_text b.0.0) _ shares.1 pieces.1) in
+    let text = seam (line_of (kind_line kinds.Lottery) ++ at.bytes) a.0.1.bytes c.0.1.bytes (worth_text a.0.0.0 a.0.0.1) _ worth.2 (seam a.0.1.bytes b.0.1.bytes c.0.1.bytes (shares_text b.0.0) _ shares.1 pieces.1) in
     let same = ok_is {E = TextFault} (made, c.0.1) (winning, rest) c.2 in
-    subst (λ (x : Winning × Cursor). IsWhole x.0 × IsLotteryFor sizes x.0 × (at.bytes ≡ (worth_text x.0.total x.0.prices ++ (shares_text x.0.shares ++ pieces_text x.0.lottery)) ++ x.1.bytes)) same (whole, are, text)
+    subst (λ (x : Winning × Cursor). IsWhole x.0 × IsLotteryFor sizes x.0 × (line_of (kind_line kinds.Lottery) ++ at.bytes ≡ (worth_text x.0.total x.0.prices ++ (shares_text x.0.shares ++ pieces_text x.0.lottery)) ++ x.1.bytes)) same (whole, are, text)
 
-pub lottery_again : (sizes : Sizes) (number : ℕ) (winning : Winning) (rest : List ℕ) → AreSmall sizes → IsWhole winning → IsLotteryFor sizes winning
-    → (m : ℕ) × (lottery_at sizes (record { number = number; bytes = lottery_text winning ++ rest }) ≡ Ok (winning, record { number = m; bytes = rest }))
+pub lottery_again : (sizes : Sizes) (winning : Winning) (rest : List ℕ) → AreSmall sizes → IsWhole winning → IsLotteryFor sizes winning
+    → ReadsBehind kinds.Lottery (lottery_at sizes) winning (lottery_text winning ++ rest) rest
 unfolding lottery_at lottery_text
-lottery_again sizes number winning rest small whole are =
+lottery_again sizes winning rest small whole are =
     let w = worth_text winning.total winning.prices in
     let s = shares_text winning.shares in
     let p = pieces_text winning.lottery in
-    let first = worth_again sizes number winning.total winning.prices (s ++ (p ++ rest)) small are.total are.prices in
-    let second = shares_again sizes first.0 winning.shares (p ++ rest) small are.shares in
-    let third = pieces_again sizes second.0 winning.lottery rest small are.pieces in
-    let regrouped : (w ++ (s ++ p)) ++ rest ≡ w ++ (s ++ (p ++ rest)) = append_assoc w (s ++ p) rest ∙ ap (λ (t : List ℕ). w ++ t) (append_assoc s p rest) in
-    let place : Cursor = record { number = third.0; bytes = rest } in
-    (third.0, rw (regrouped, first.1, second.1, third.1) (ap (λ (x : Winning). Ok (x, place)) (is_winning winning whole)))
+    let worth = worth_again sizes winning.total winning.prices (s ++ (p ++ rest)) small are.total are.prices in
+    let regrouped : (w ++ (s ++ p)) ++ rest ≡ w ++ (s ++ (p ++ rest)) = append_assoc w (s ++ p) rest ∙ ap (λ (t : List ℕ). w ++ t) (append_assoc s p rest) in (
+      worth.0,
+      regrouped ∙ worth.1,
+      λ number.
+          let first = worth.2 number in
+          let second = shares_again sizes first.0 winning.shares (p ++ rest) small are.shares in
+          let third = pieces_again sizes second.0 winning.lottery rest small are.pieces in
+          let place : Cursor = record { number = third.0; bytes = rest } in
+          (third.0, rw (first.1, second.1, third.1) (ap (λ (x : Winning). Ok (x, place)) (is_winning winning whole))),
+    )
   where
     is_winning : (x : Winning) → IsWhole x → winning_of (x.total, x.prices) x.shares x.lottery ≡ x
     is_winning x is = rw (is.mode, is.level) refl

@@ -1,13 +1,11 @@
 -- The prices and the pieces of a lottery, section by section.
-use Rattle.std.proofs.Common.{◌≡◌, ℕ, List, [], Result, Ok, Err, ℤ, refl, sym, ap, ◌∙◌}
+use Rattle.std.proofs.Common.{◌≡◌, List, Ok, ℤ, refl}
 use Rattle.std.specs.Prelude.{codes}
-use Rattle.match_rules.specs.declared.answer.Prices.{Prices}
 use Rattle.match_rules.specs.declared.lottery.Piece.{Piece}
 use Rattle.match_rules.specs.declared.rules.TheConstants.{MOST_TICKETS}
-use Rattle.text_lines.specs.declared.fault.TextFault.{TextFault}
 use Rattle.text_lines.specs.declared.fault.ReadError.{ReadError}
 use Rattle.text_lines.specs.Forms.{fixed, section_at}
-use Rattle.text_lines.specs.Reading.{◌>>=◌, Cursor, Fails, due}
+use Rattle.text_lines.specs.Reading.{Cursor, Fails, due}
 use Rattle.text_lines.proofs.DueLaws.{bind_fails}
 use Rattle.publication.specs.declared.sizes.Sizes.{Sizes}
 use Rattle.publication.specs.AnswerForms.{piece_of}

@@ -1,17 +1,16 @@
 -- Pairs are read as they are spelled.
-use Rattle.std.proofs.Common.{◌≡◌, ℕ, zero, suc, ◌+◌, ◌-◌, ◌^◌, ◌<◌, ◌≤◌, ◌⊎◌, Bool, true, false, cond, ◌&&◌, ◌||◌, eqb, ltb, leb, ℤ, List, [], ◌∷◌, ◌++◌, length, get_or, take, Option, None, Some, Result, Ok, Err, inl, inr, refl, sym, ap, subst, ◌∙◌, arith, lit<}
+use Rattle.std.proofs.Common.{◌≡◌, ℕ, ◌+◌, ◌^◌, ◌<◌, ◌≤◌, ◌⊎◌, true, ◌&&◌, ◌||◌, eqb, ltb, List, [], ◌∷◌, length, Ok, inl, inr, refl, sym, ap, subst, ◌∙◌, arith, lit<}
 use Rattle.std.specs.Prelude.{decimal, nat_abs}
 use Rattle.std.specs.Fmt.{signed_decimal}
-use Rattle.std.proofs.lemmas.Bool.{ltb-true, lt-ltb, leb-true, le-leb, eqb-true, eq-eqb, or_cases, or_left, or_right, and_parts, and_from}
+use Rattle.std.proofs.lemmas.Bool.{ltb-true, lt-ltb, eqb-true, eq-eqb, or_cases, or_left, or_right, and_parts, and_from}
 use lib.Signed.{mag}
 use Rattle.match_rules.specs.declared.rules.RulePair.{RulePair}
 use Rattle.match_rules.specs.declared.rules.TheConstants.{MOST_TICKETS}
 use Rattle.match_rules.specs.Rules.{ArePairs, IsPair, IsPairBefore, pair_in, no_pair, most_score}
 use Rattle.text_lines.specs.declared.fault.LineCode.{LineCode}
-use Rattle.text_lines.specs.declared.fault.LineCode.TheVariants.{Form, Number, Range, Order}
+use Rattle.text_lines.specs.declared.fault.LineCode.TheVariants.{Number, Range, Order}
 use Rattle.text_lines.specs.Fields.{fields, with_spaces, five_of}
 use Rattle.text_lines.specs.Forms.{in_form, only_if, number_from, integer_from}
-use Rattle.text_lines.specs.Numbers.{is_canonical, is_canonical_signed, size, signed_value}
 use Rattle.text_lines.specs.Reading.{◌>>=◌}
 use Rattle.text_lines.specs.Texts.{AllAlong}
 use Rattle.text_lines.proofs.FormLaws.{five_fields_spell, number_from_takes, number_from_again, integer_from_takes, integer_from_again}

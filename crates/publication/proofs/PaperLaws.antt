@@ -1,21 +1,21 @@
 -- Papers are read as they are spelled.
-use Rattle.std.proofs.Common.{◌≡◌, ℕ, zero, suc, ◌+◌, ◌-◌, ◌^◌, ◌<◌, ◌≤◌, Bool, true, false, List, [], ◌∷◌, ◌++◌, length, get_or, take, Result, Ok, Err, refl, sym, ap, subst, ◌∙◌, append_assoc, arith, lit<}
+use Rattle.std.proofs.Common.{◌≡◌, ℕ, ◌+◌, ◌^◌, ◌<◌, ◌≤◌, Bool, true, List, [], ◌∷◌, ◌++◌, length, Ok, refl, sym, ap, subst, ◌∙◌, append_assoc, arith, lit<}
 use Rattle.std.proofs.lemmas.List.{append-nil}
 use Rattle.std.specs.Prelude.{decimal, nat_le}
 use Rattle.std.specs.Ordering.{is_lt}
 use Rattle.std.proofs.lemmas.Bool.{leb-true, le-leb}
 use Rattle.match_rules.specs.declared.rules.RulePaper.{RulePaper}
 use Rattle.match_rules.specs.Id.{is_id}
-use Rattle.match_rules.specs.Rules.{ArePapers, demand_total, paper_in, no_paper, id_cmp}
+use Rattle.match_rules.specs.Rules.{ArePapers, demand_total, no_paper, id_cmp}
 use Rattle.text_lines.specs.declared.fault.LineCode.{LineCode}
-use Rattle.text_lines.specs.declared.fault.LineCode.TheVariants.{Form, Number, Range, Id, Order}
+use Rattle.text_lines.specs.declared.fault.LineCode.TheVariants.{Range, Order}
 use Rattle.text_lines.specs.Fields.{fields, with_spaces, two_of}
 use Rattle.text_lines.specs.Forms.{in_form, only_if, number_from}
 use Rattle.text_lines.specs.Reading.{◌>>=◌}
 use Rattle.text_lines.specs.Texts.{AllAlong}
 use Rattle.text_lines.proofs.FormLaws.{two_fields_spell, number_from_takes, number_from_again}
 use Rattle.text_lines.proofs.TextLaws.{Spells, IsLine, bind_ok, guard_ok, ok_is, along_at, along_from_at}
-use Rattle.text_lines.proofs.WordLaws.{IsWord, fields-with_spaces, words_line, number_word, number_short, length-with_spaces_one, length-with_spaces_more}
+use Rattle.text_lines.proofs.WordLaws.{fields-with_spaces, words_line, number_word, number_short, length-with_spaces_one, length-with_spaces_more}
 use Rattle.publication.specs.RulesReading.{id_of, paper_of, paper_fields, paper_with, is_paper_behind}
 use Rattle.publication.specs.RulesText.{paper_line}
 use Rattle.publication.proofs.Demands.{demand_total_push, demand_total_within}

@@ -1,21 +1,20 @@
 -- The lines of pieces: what is read is spelled so, and what is spelled so is read again.
-use Rattle.std.proofs.Common.{◌≡◌, ℕ, zero, suc, ◌+◌, ◌*◌, ◌-◌, ◌^◌, ◌<◌, ◌≤◌, Bool, true, false, cond, leb, ltb, ◌&&◌, List, [], ◌∷◌, ◌++◌, length, Result, Ok, Err, refl, sym, ap, subst, ◌∙◌, arith, lit<}
-use Rattle.std.specs.Prelude.{map, decimal, nat_le, nat_lt, All}
+use Rattle.std.proofs.Common.{◌≡◌, ℕ, ◌+◌, ◌*◌, ◌^◌, ◌<◌, ◌≤◌, true, ◌&&◌, List, [], ◌∷◌, length, Ok, refl, sym, ap, subst, ◌∙◌, arith, lit<}
+use Rattle.std.specs.Prelude.{map, decimal, nat_le, nat_lt}
 use Rattle.std.specs.List.{list_all}
-use Rattle.std.proofs.lemmas.Bool.{leb-true, ltb-true, le-leb, lt-ltb, and_parts}
+use Rattle.std.proofs.lemmas.Bool.{leb-true, ltb-true, and_parts}
 use Rattle.std.proofs.lemmas.Fmt.{length-decimal-le}
 use Rattle.match_rules.specs.declared.lottery.Piece.{Piece}
 use Rattle.match_rules.specs.declared.rules.TheConstants.{MOST_TICKETS}
-use Rattle.text_lines.specs.declared.lines.TheConstants.{LONGEST_LINE}
 use Rattle.text_lines.specs.declared.fault.LineCode.{LineCode}
-use Rattle.text_lines.specs.declared.fault.LineCode.TheVariants.{Form, Number, Range, Order}
+use Rattle.text_lines.specs.declared.fault.LineCode.TheVariants.{Number, Range, Order}
 use Rattle.text_lines.specs.Fields.{fields, with_spaces}
 use Rattle.text_lines.specs.Forms.{only_if}
 use Rattle.text_lines.specs.Numbers.{is_canonical, value}
 use Rattle.text_lines.proofs.NumberLaws.{number_takes, number_again}
-use Rattle.text_lines.proofs.TextLaws.{Spells, IsLine, ok_is, guard_ok}
+use Rattle.text_lines.proofs.TextLaws.{Spells, ok_is, guard_ok}
 use Rattle.text_lines.proofs.FieldLaws.{with_spaces-fields}
-use Rattle.text_lines.proofs.WordLaws.{IsWord, AllWords, fields-with_spaces, words_line, number_word, number_short, length-with_spaces_one, length-with_spaces_more}
+use Rattle.text_lines.proofs.WordLaws.{AllWords, fields-with_spaces, words_line, number_word, number_short, length-with_spaces_one, length-with_spaces_more}
 use Rattle.publication.specs.AnswerForms.{ascends, stands_behind, in_range, piece_with, piece_in, piece_of, piece_line}
 
 -- a piece that may stand behind others

@@ -1,12 +1,12 @@
 -- Reviewers are read as they are spelled.
-use Rattle.std.proofs.Common.{◌≡◌, ℕ, zero, suc, ◌+◌, ◌-◌, ◌^◌, ◌<◌, ◌≤◌, Bool, true, false, List, [], ◌∷◌, ◌++◌, length, get_or, take, Option, None, Some, Result, Ok, Err, refl, sym, ap, subst, ◌∙◌, arith, lit<}
+use Rattle.std.proofs.Common.{◌≡◌, ℕ, ◌+◌, ◌^◌, ◌<◌, ◌≤◌, Bool, true, List, [], ◌∷◌, length, Option, Ok, refl, sym, ap, subst, ◌∙◌, arith, lit<}
 use Rattle.std.specs.Prelude.{decimal, option_to_list}
 use Rattle.std.specs.Ordering.{is_lt}
 use Rattle.match_rules.specs.declared.rules.RuleReviewer.{RuleReviewer}
-use Rattle.match_rules.specs.Id.{is_id, is_institution}
-use Rattle.match_rules.specs.Rules.{AreReviewers, reviewer_in, no_reviewer, id_cmp}
+use Rattle.match_rules.specs.Id.{is_id}
+use Rattle.match_rules.specs.Rules.{AreReviewers, no_reviewer, id_cmp}
 use Rattle.text_lines.specs.declared.fault.LineCode.{LineCode}
-use Rattle.text_lines.specs.declared.fault.LineCode.TheVariants.{Form, Number, Range, Id, Order}
+use Rattle.text_lines.specs.declared.fault.LineCode.TheVariants.{Number, Order}
 use Rattle.text_lines.specs.Fields.{fields, with_spaces, three_or_four_of}
 use Rattle.text_lines.specs.Forms.{in_form, only_if, number_from}
 use Rattle.text_lines.specs.Numbers.{is_canonical}
@@ -15,7 +15,7 @@ use Rattle.text_lines.specs.Texts.{AllAlong}
 use Rattle.text_lines.proofs.FormLaws.{three_or_four_fields_spell, three_or_four_of_again, number_from_takes, number_from_again}
 use Rattle.text_lines.proofs.NumberLaws.{number_again}
 use Rattle.text_lines.proofs.TextLaws.{Spells, IsLine, bind_ok, guard_ok, ok_is, along_at, along_from_at}
-use Rattle.text_lines.proofs.WordLaws.{AllWords, fields-with_spaces, words_line, number_word, number_short, length-with_spaces_one, length-with_spaces_more}
+use Rattle.text_lines.proofs.WordLaws.{AllWords, fields-with_spaces, words_line, number_word, number_short, length-with_spaces_more}
 use Rattle.publication.specs.RulesReading.{id_of, institution_of, loads_of, reviewer_of, reviewer_fields, reviewer_with, is_reviewer_behind}
 use Rattle.publication.specs.RulesText.{reviewer_line}
 use Rattle.publication.proofs.IdLaws.{IsHome, id_word, id_short, id_of_takes, institution_takes, institution_again, home_words, home_short}

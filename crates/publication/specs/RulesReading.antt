@@ -1,5 +1,5 @@
 -- Reading the text of rules, line by line, with the first code that applies to a line.
-use Rattle.std.specs.Prelude.{ℕ, ◌+◌, ◌-◌, ℤ, pos, Bool, true, ◌&&◌, ◌||◌, ◌==◌, nat_le, nat_lt, List, [], ◌∷◌, length, Option, None, Some, Result, Ok, Err, slice_get, codes}
+use Rattle.std.specs.Prelude.{ℕ, ◌+◌, ◌-◌, Bool, true, ◌&&◌, ◌||◌, ◌==◌, nat_le, nat_lt, List, length, Option, None, Some, Result, Ok, slice_get, codes}
 use Rattle.std.specs.Option.{option_map_or}
 use Rattle.std.specs.Ordering.{is_lt}
 use Rattle.match_rules.specs.declared.rules.RulePaper.{RulePaper}
@@ -9,11 +9,11 @@ use Rattle.match_rules.specs.declared.rules.TheConstants.{MOST_TICKETS}
 use Rattle.match_rules.specs.Id.{is_id, is_institution}
 use Rattle.match_rules.specs.Rules.{RulesValue, rules_value, demand_total, id_cmp, most_score}
 use Rattle.text_lines.specs.declared.fault.LineCode.{LineCode}
-use Rattle.text_lines.specs.declared.fault.LineCode.TheVariants.{Form, Number, Range, Id, Order}
+use Rattle.text_lines.specs.declared.fault.LineCode.TheVariants.{Number, Range, Id, Order}
 use Rattle.text_lines.specs.declared.fault.TextFault.{TextFault}
 use Rattle.text_lines.specs.Fields.{fields, two_of, three_or_four_of, five_of}
 use Rattle.text_lines.specs.Forms.{fixed, in_form, only_if, number_from, integer_from, counted, section_at}
-use Rattle.text_lines.specs.Numbers.{is_canonical, is_canonical_signed, value, signed_value, size}
+use Rattle.text_lines.specs.Numbers.{is_canonical, is_canonical_signed}
 use Rattle.text_lines.specs.Reading.{◌>>=◌, Cursor, due}
 
 -- the last of the items, where there is one

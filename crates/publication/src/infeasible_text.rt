@@ -90,11 +90,7 @@ fn read_cut<S: Source>(
 }
 
 #[tactic(auto, unfolding(crate::specs::InfeasibleReading::sums_at))]
-fn read_sums<S: Source>(
-    alloc: Global,
-    lines: &mut Lines,
-    source: &mut S,
-) -> Result<Sums, ReadError>
+fn read_sums<S: Source>(alloc: Global, lines: &mut Lines, source: &mut S) -> Result<Sums, ReadError>
     ensures reads { IsSome (S.left source.new) → Gives (λ sums. (sums.need, sums.room)) result (cursor lines.new (S.left source.new)) (sums_at (cursor lines.old (S.left source.old))) }
     ensures untold { TellsNoMore (S.left source.old) (S.left source.new) }
     ensures cause { FaultHasCause (S.faults source.old) (S.faults source.new) result }

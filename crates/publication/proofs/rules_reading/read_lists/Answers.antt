@@ -1,4 +1,4 @@
-use Rattle.std.proofs.Common.{◌≡◌, ℕ, List, length, sym, ◌∙◌, arith}
+use Rattle.std.proofs.Common.{◌≡◌, length, arith}
 use Rattle.std.proofs.lemmas.Result.{err_from_is_err_and}
 use Rattle.publication.proofs.ListsLaws.{reviewers_fail, pairs_fail, lists_read, lists_from}
 use Rattle.publication.proofs.rules_reading.read_lists.Goals as goal

@@ -1,4 +1,4 @@
-use Rattle.std.proofs.Common.{◌≡◌, ◌+◌, sym, ap, ◌∙◌, arith}
+use Rattle.std.proofs.Common.{◌+◌, sym, ap, ◌∙◌, arith}
 use Rattle.publication.proofs.Demands.{demand_total_push}
 use Rattle.publication.proofs.paper_form.PaperFormLineForm.read.Goals as goal
 
