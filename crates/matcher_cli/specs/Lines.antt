@@ -1,12 +1,10 @@
 -- The lines that the check writes.
-use Rattle.std.specs.Prelude.{ℕ, ℤ, List, ◌++◌, codes}
+use Rattle.std.specs.Prelude.{ℕ, ℤ, List, ◌++◌, length, codes}
+use Rattle.match_rules.specs.declared.answer.Answer.{Answer}
+use Rattle.match_rules.specs.declared.answer.Answer.TheVariants.{Lottery, Infeasible}
 use Rattle.match_rules.specs.declared.breaks.Break.{Break}
 use Rattle.match_rules.specs.declared.breaks.Break.TheVariants as broken
 use Rattle.text_lines.specs.Labels.{labelled, labelled_signed}
-
--- a lottery of so many pieces meets the rules
-unfoldable pub meets_line : ℕ → List ℕ
-meets_line pieces = labelled (codes "meets whole pieces ") pieces ++ codes "\n"
 
 -- labelled numbers and a line feed
 unfoldable pub one_number : List ℕ → ℕ → List ℕ
@@ -23,6 +21,14 @@ two_signed label number other second = (labelled_signed label number ++ labelled
 
 unfoldable pub one_signed : List ℕ → ℤ → List ℕ
 one_signed label number = labelled_signed label number ++ codes "\n"
+
+unfoldable pub signed_and_number : List ℕ → ℤ → List ℕ → ℕ → List ℕ
+signed_and_number label number other second = (labelled_signed label number ++ labelled other second) ++ codes "\n"
+
+-- the line of a valid answer of the mode whole
+abbrev pub valid_line : Answer → List ℕ
+valid_line (Lottery winning) = signed_and_number (codes "valid whole threshold none total ") winning.total (codes " pieces ") (length winning.lottery)
+valid_line (Infeasible blocked) = two_numbers (codes "valid infeasible need ") blocked.need (codes " room ") blocked.room
 
 -- the line of a broken clause
 abbrev pub broken_line : Break → List ℕ

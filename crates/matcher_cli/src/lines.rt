@@ -1,8 +1,8 @@
 // The lines that the check writes.
 ghost use Rattle.std.specs.Prelude.{◌≡◌, ◌+◌, ◌≤◌, length, codes};
-ghost use Rattle.matcher_cli.specs.Lines.{meets_line, broken_line, one_number, two_numbers, three_numbers, one_signed, two_signed, refused_line, usage_text};
+ghost use Rattle.matcher_cli.specs.Lines.{signed_and_number, valid_line, broken_line, one_number, two_numbers, three_numbers, one_signed, two_signed};
 
-use match_rules::Break;
+use match_rules::{Answer, Break};
 use text_lines::LineBuffer;
 
 /// A labelled number and a line feed.
@@ -72,6 +72,19 @@ fn two_signed(label: &[u8], number: &i128, other: &[u8], second: &i128) -> LineB
     let mut line = LineBuffer::new();
     line.push_labelled_signed(label, *number);
     line.push_labelled_signed(other, *second);
+    line.push(b"\n");
+    line
+}
+
+#[tactic(auto, unfolding(crate::specs::Lines::signed_and_number))]
+fn signed_and_number(label: &[u8], number: &i128, other: &[u8], second: u64) -> LineBuffer
+    requires label { length label.now ≤ 64 }
+    requires other { length other.now ≤ 64 }
+    ensures { result ≡ signed_and_number label.now number.now other.now second }
+{
+    let mut line = LineBuffer::new();
+    line.push_labelled_signed(label, *number);
+    line.push_labelled(other, second);
     line.push(b"\n");
     line
 }
@@ -147,10 +160,25 @@ fn in_piece(label: &[u8], piece: u32, what: &[u8], place: u32, count: u32) -> Li
     )
 }
 
-/// The line of a lottery that meets the rules.
-#[tactic(auto, unfolding(crate::specs::Lines::meets_line, crate::specs::Lines::one_number))]
-pub fn meets_line(pieces: u64) -> LineBuffer
-    ensures { result ≡ meets_line pieces }
+/// The line of a valid answer of the mode whole.
+pub fn valid_line(answer: &Answer) -> LineBuffer
+    ensures { result ≡ valid_line answer.now }
 {
-    one_number(b"meets whole pieces ", pieces)
+    match answer {
+        Answer::Lottery(winning) => {
+            let pieces = winning.lottery.pieces();
+            signed_and_number(
+                b"valid whole threshold none total ",
+                &winning.total,
+                b" pieces ",
+                pieces.len() as u64,
+            )
+        }
+        Answer::Infeasible(blocked) => two_numbers(
+            b"valid infeasible need ",
+            blocked.need,
+            b" room ",
+            blocked.room,
+        ),
+    }
 }

@@ -2,15 +2,15 @@
 ghost use Rattle.std.specs.Prelude.{◌≡◌, ◌≢◌, ◌⊎◌, ◌++◌, [], ℕ, List, true, false, IsSome};
 ghost use Rattle.edge_io.specs.Counts.{Rose};
 ghost use Rattle.edge_io.specs.Told.{told};
-ghost use Rattle.publication.specs.Certificates.{IsCertificate, IsCertificateFor};
+ghost use Rattle.publication.specs.Certificates.{IsCertificate};
 ghost use Rattle.matcher_cli.specs.Lines.{usage_text, refused_line};
 ghost use Rattle.matcher_cli.specs.Verdicts.{IsCheck, IsExact, Judges, Checks, Written};
 
-use crate::lines::{broken_line, meets_line};
+use crate::lines::{broken_line, valid_line};
 use crate::status::Status;
 use edge_io::{Sink, Source, write_all};
-use match_rules::{Answer, Rules, Scratch, Winning, first_break};
-use publication::{ReadRefusal, read_certificate};
+use match_rules::{Answer, Rules, Scratch};
+use publication::{ReadRefusal, check, read_certificate};
 use std::alloc::Global;
 
 // Whether the words are those of the check.
@@ -24,23 +24,20 @@ fn is_check(words: &[String]) -> bool
     }
 }
 
-// Says whether a lottery meets its rules, or its first break.
-fn judge<K: Sink>(alloc: Global, rules: &Rules, winning: &Winning, sink: &mut K) -> Status
-    requires { IsCertificate rules.now winning.now }
-    ensures judges { Judges result rules.now winning.now (told (K.taken sink.old)) (K.taken sink.new) }
+// Says that an answer is valid, or its first break.
+fn judge<K: Sink>(alloc: Global, rules: &Rules, answer: &Answer, sink: &mut K) -> Status
+    requires { IsCertificate rules.now answer.now }
+    ensures judges { Judges result rules.now answer.now (told (K.taken sink.old)) (K.taken sink.new) }
     ensures cause { result ≡ Status.WriteFault → Rose (K.faults sink.old) (K.faults sink.new) }
 {
     let Ok(mut scratch) = Scratch::new(alloc, rules) else {
         return Status::Memory;
     };
-    match first_break(rules, &winning.shares, &winning.lottery, &mut scratch) {
-        None => {
-            let pieces = winning.lottery.pieces().len() as u64;
-            match write_all(sink, meets_line(pieces).as_slice()) {
-                Ok(()) => Status::Done,
-                Err(_) => Status::WriteFault,
-            }
-        }
+    match check(rules, answer, &mut scratch) {
+        None => match write_all(sink, valid_line(answer).as_slice()) {
+            Ok(()) => Status::Done,
+            Err(_) => Status::WriteFault,
+        },
         Some(broken) => match write_all(sink, broken_line(&broken).as_slice()) {
             Ok(()) => Status::Broken,
             Err(_) => Status::WriteFault,
@@ -75,18 +72,16 @@ fn refuse_text<K: Sink>(sink: &mut K) -> Status
 }
 
 // Reads a certificate and judges it.
-fn check<S: Source, K: Sink>(alloc: Global, source: &mut S, sink: &mut K) -> Status
+fn check_text<S: Source, K: Sink>(alloc: Global, source: &mut S, sink: &mut K) -> Status
     ensures checks { IsSome (S.left source.new) → Checks result (told (S.left source.old)) (told (K.taken sink.old)) (K.taken sink.new) }
+    ensures exact { IsSome (S.left source.new) → IsExact (told (S.left source.old)) result }
     ensures end { IsSome (S.left source.new) → result ≡ Status.Done → told (S.left source.new) ≡ [] }
     ensures usage { result ≢ Status.Usage }
     ensures read_fault { result ≡ Status.ReadFault → Rose (S.faults source.old) (S.faults source.new) }
     ensures write_fault { result ≡ Status.WriteFault → Rose (K.faults sink.old) (K.faults sink.new) }
 {
     match read_certificate(alloc, source) {
-        Ok(certificate) => match &certificate.answer {
-            Answer::Lottery(winning) => judge(alloc, &certificate.rules, winning, sink),
-            Answer::Infeasible(_) => unreachable!(),
-        },
+        Ok(certificate) => judge(alloc, &certificate.rules, &certificate.answer, sink),
         Err(ReadRefusal::Memory) => Status::Memory,
         Err(ReadRefusal::ReadFault) => Status::ReadFault,
         Err(ReadRefusal::Text) => refuse_text(sink),
@@ -107,8 +102,8 @@ pub fn matcher<S: Source, K: Sink>(
     ensures refused_words { ¬ (IsCheck words.now) → (result ≡ Status.Usage) ⊎ (result ≡ Status.WriteFault) }
     ensures usage_line { result ≡ Status.Usage → Written (told (K.taken sink.old)) (K.taken sink.new) usage_text }
 
-    // Where the source tells its bytes: 0 comes exactly where they are the text of rules and of a lottery that meets
-    // them, 1 where a clause is broken, with the line of the first, 6 where they are no such text.
+    // Where the source tells its bytes: 0 comes exactly where they are the text of rules and of a valid answer, 1 where
+    // it breaks a clause, with the line of the first, 6 where they are no such text.
     ensures checks { IsSome (S.left source.new) → IsCheck words.now → Checks result (told (S.left source.old)) (told (K.taken sink.old)) (K.taken sink.new) }
     ensures exact { IsSome (S.left source.new) → IsCheck words.now → IsExact (told (S.left source.old)) result }
     ensures end { IsSome (S.left source.new) → result ≡ Status.Done → told (S.left source.new) ≡ [] }
@@ -117,7 +112,7 @@ pub fn matcher<S: Source, K: Sink>(
     ensures write_fault { result ≡ Status.WriteFault → Rose (K.faults sink.old) (K.faults sink.new) }
 {
     if is_check(words) {
-        check(alloc, source, sink)
+        check_text(alloc, source, sink)
     } else {
         refuse_words(sink)
     }

@@ -5,9 +5,9 @@ ghost use Rattle.matcher_cli.specs.Codes.{code_of};
 /// How a run of the program ended; `code` is the exit status.
 #[derive(Debug, Clone, Copy, PartialEq, Eq)]
 pub enum Status {
-    /// The lottery meets the rules.
+    /// The answer is valid.
     Done,
-    /// It breaks one: the line names the first.
+    /// It breaks a clause: the line names the first.
     Broken,
     /// The words aren't taken.
     Usage,

@@ -18,3 +18,5 @@ pub mod LotteryLaws
 pub mod CutReading
 pub mod InfeasibleLaws
 pub mod CertificateLaws
+pub mod CheckSums
+pub mod CheckLaws

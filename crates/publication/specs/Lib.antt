@@ -9,3 +9,4 @@ pub mod RulesReading
 pub mod RulesText
 pub mod Scans
 pub mod Certificates
+pub mod Checks

@@ -5,6 +5,7 @@ mod answer;
 mod answer_forms;
 mod answer_text;
 mod certificate;
+mod checking;
 mod cut_forms;
 mod infeasible_text;
 mod numbers;
@@ -16,6 +17,7 @@ mod rules_reading;
 mod sizes;
 
 pub use certificate::{Certificate, ReadRefusal, read_certificate};
+pub use checking::check;
 
 #[cfg(test)]
 mod tests;

@@ -1,0 +1,11 @@
+use Rattle.matcher_cli.proofs.VerdictLaws.{judges_checks, judges_exact}
+use Rattle.matcher_cli.proofs.matching.check_text.Goals as goal
+
+pub returns-in-Ok-clause-checks : goal.returns-in-Ok-clause-checks
+returns-in-Ok-clause-checks g c = λ tells.
+    judges_checks c.judge.result _ _ _ _ _ (record { certificate = c.in-Ok.ensures.matching; text = c.in-Ok.ensures.found tells }) c.judge.ensures.judges
+
+pub returns-in-Ok-clause-exact : goal.returns-in-Ok-clause-exact
+returns-in-Ok-clause-exact g c = λ tells.
+    judges_exact c.judge.result _ _ _ _ _ (record { certificate = c.in-Ok.ensures.matching; text = c.in-Ok.ensures.found tells })
+    (λ others other text. c.in-Ok.ensures.only tells others other text.certificate text.text) c.judge.ensures.judges
