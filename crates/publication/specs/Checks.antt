@@ -46,6 +46,7 @@ violated_break rules blocked =
     unless (nat_lt (room rules EveryPair blocked.cut) (need rules EveryPair blocked.cut))
     (NotViolated (need rules EveryPair blocked.cut) (room rules EveryPair blocked.cut))
 
+-- clauses 11 and 12
 abbrev pub worth_break : RulesValue → Winning → Option Break
 worth_break rules winning = first_of_two (total_break rules winning) (bound_break rules winning)
 
