@@ -1,6 +1,7 @@
 // Values of affinity as text and as numbers, and the score of a pair as a weighted sum of its sources.
 #![tactic(auto)]
 
+mod examples;
 mod magnitude;
 mod numbers;
 mod scan;
@@ -9,6 +10,7 @@ mod spec;
 mod tests;
 mod text;
 
+pub use examples::{worked_scores, worked_tables};
 pub use numbers::{NumberFault, Value, read_value};
 pub use spec::{BidWord, Kind, SourceSpec, Sources, Spec, Words};
 pub use text::Text;
