@@ -6,3 +6,5 @@ pub mod Sources
 pub mod PairTables
 pub mod Scores
 pub mod Examples
+pub mod TextMaps
+pub mod Lending

@@ -1,7 +1,6 @@
 -- Tables of pairs: for each paper, in ascending order, its reviewers in ascending order, each with a value.
-use Rattle.std.specs.Prelude.{ℕ, ◌+◌, ◌≤◌, List, [], length, ◌∷◌, Option, unwrap_or}
+use Rattle.std.specs.Prelude.{◌≡◌, ℕ, ◌+◌, ◌≤◌, List, [], length, ◌∷◌, Option, unwrap_or}
 use Rattle.std.specs.Option.{option_map}
-use Rattle.std.specs.List.{All}
 use Rattle.roster.specs.Table.{Ascend, row_of, put_row}
 
 -- an id with what stands for it
@@ -49,7 +48,18 @@ pub record AreReviewers {V : Type 0} (reviewers : Entries V) : Type 0 where
   pub ascend : Ascend entry_id reviewers
   pub some : 1 ≤ length reviewers
 
+-- so for each paper
+abbrev pub HaveReviewers : {V : Type 0} → PairsValue V → Type 0
+HaveReviewers [] = Unit {0}
+HaveReviewers (paper ∷ table) = AreReviewers paper.value × HaveReviewers table
+
 -- papers ascend, and the reviewers of each
 pub record ArePairs {V : Type 0} (table : PairsValue V) : Type 0 where
   pub papers : Ascend entry_id table
-  pub reviewers : All (λ paper. AreReviewers paper.value) table
+  pub reviewers : HaveReviewers table
+
+-- a table of at most 250,000 pairs, with their count
+pub record IsPairTable {V : Type 0} (table : PairsValue V) (count : ℕ) : Type 0 where
+  pub pairs : ArePairs table
+  pub counted : count ≡ pair_count table
+  pub few : count ≤ 250000
