@@ -4,3 +4,4 @@ pub mod Spellings
 pub mod Grammar
 pub mod TextMaps
 pub mod PairTables
+pub mod SourceTables

@@ -7,16 +7,31 @@ use Rattle.std.specs.declared.cmp.Ordering.{Ordering}
 use Rattle.std.specs.declared.cmp.Ordering.TheVariants.{Less, Equal, Greater}
 use Rattle.roster.specs.Table.{id_cmp, by_order, AllAbove, AllBelow, Ascend, row_of, put_row}
 use Rattle.roster.proofs.Tables.{id_same, id_trans, id_turned, id_turned_back, id_itself, ascend-put, row_of-put, row_of-others}
-use Rattle.score_spec.specs.PairTables.{Entry, Entries, entry_id, value_of, put_value, PairsValue, reviewers_of, value_of_pair, put_pair, pair_count, AreReviewers, HaveReviewers, ArePairs, IsPairTable}
+use Rattle.score_spec.specs.PairTables.{Entry, Entries, entry_id, value_of, put_value, without, PairsValue, reviewers_of, value_of_pair, put_pair, pair_count, AreReviewers, HaveReviewers, ArePairs, IsPairTable}
 
 -- two ids are the same or not
-same_or_other : (a b : List ℕ) → (a ≡ b) ⊎ (a ≢ b)
+pub same_or_other : (a b : List ℕ) → (a ≡ b) ⊎ (a ≢ b)
 same_or_other a b = on (id_cmp a b) refl
   where
     on : (o : Ordering) → id_cmp a b ≡ o → (a ≡ b) ⊎ (a ≢ b)
     on Less e = inr (λ same. absurd (let itself = id_itself b in let less : id_cmp b b ≡ Less = rw same at e in cc))
     on Equal e = inl (id_same a b e)
     on Greater e = inr (λ same. absurd (let itself = id_itself b in let greater : id_cmp b b ≡ Greater = rw same at e in cc))
+
+equal_same : (a b : List ℕ) → is_eq (id_cmp a b) ≡ true → a ≡ b
+equal_same a b h = on (id_cmp a b) refl h
+  where
+    on : (o : Ordering) → id_cmp a b ≡ o → is_eq o ≡ true → a ≡ b
+    on Less e h = absurd (true≢false (sym h))
+    on Equal e h = id_same a b e
+    on Greater e h = absurd (true≢false (sym h))
+
+differ : (a b : List ℕ) → a ≢ b → is_eq (id_cmp a b) ≡ false
+differ a b ne = on (is_eq (id_cmp a b)) refl
+  where
+    on : (t : Bool) → is_eq (id_cmp a b) ≡ t → t ≡ false
+    on true e = absurd (ne (equal_same a b e))
+    on false e = refl
 
 module _ {V : Type 0} where
   abbrev entry : List ℕ → V → Entry V
@@ -72,6 +87,32 @@ module _ {V : Type 0} where
   put-next id value front back whole up same =
       let last = put-last id value front (below-next id value front back (rw same up)) in
       ap (λ xs. xs ++ back) last ∙ append_assoc front (entry id value ∷ []) back ∙ same
+
+  -- an id taken out
+
+  row-others : (id : List ℕ) (entries : Entries V) (other : List ℕ) → other ≢ id → row_of entry_id other (without id entries) ≡ row_of entry_id other entries
+  row-others id [] other ne = refl
+  row-others id (e ∷ es) other ne = on (is_eq (id_cmp e.id id)) refl (row-others id es other ne)
+    where
+      on : (b : Bool) → is_eq (id_cmp e.id id) ≡ b → row_of entry_id other (without id es) ≡ row_of entry_id other es
+          → row_of entry_id other (if b then es else e ∷ without id es) ≡ row_of entry_id other (e ∷ es)
+      on true h rest = let gone = differ e.id other (λ same. ne (sym same ∙ equal_same e.id id h)) in rw gone refl
+      on false h rest = ap (λ (found : Option (Entry V)). if is_eq (id_cmp e.id other) then Some e else found) rest
+
+  pub without-others : (id : List ℕ) (entries : Entries V) (other : List ℕ) → other ≢ id → value_of (without id entries) other ≡ value_of entries other
+  without-others id entries other ne = ap (option_map (λ x. x.value)) (row-others id entries other ne)
+
+  -- a value that a place of the map was left with
+
+  pub put-through : {E : Type 0} (r : Result (Unit {0}) E) (change : V → V) (id : List ℕ) (first old new : V) (table after : Entries V) → value_of table id ≡ Some old → after ≡ put_value id new table
+      → OnOk r (new ≡ change old) → OnOk r (after ≡ put_value id (change (unwrap_or (value_of table id) first)) table)
+  put-through (Ok u) change id first old new table after found ends put = rw found (ends ∙ ap (λ value. put_value id value table) put)
+  put-through (Err e) change id first old new table after found ends put = tt
+
+  pub kept-through : {E : Type 0} (r : Result (Unit {0}) E) (id : List ℕ) (old new : V) (table after : Entries V) → Ascend entry_id table → value_of table id ≡ Some old → after ≡ put_value id new table
+      → OnErr r (new ≡ old) → OnErr r (after ≡ table)
+  kept-through (Ok u) id old new table after up found ends kept = tt
+  kept-through (Err e) id old new table after up found ends kept = ends ∙ ap (λ value. put_value id value table) kept ∙ put-same id old table up found
 
   -- how many ids there are
 
@@ -165,20 +206,6 @@ module _ {V : Type 0} where
   count-put paper reviewer value table pairs =
       let old = reviewers_of table paper in
       omega (arith, count-value paper (put_value reviewer value old) table pairs.papers, length-put reviewer value old (ascend-found paper table pairs.reviewers))
-
-  -- a put into the reviewers of a paper that is there
-
-  pub put-known : {E : Type 0} (r : Result (Unit {0}) E) (paper reviewer : List ℕ) (value : V) (table after : PairsValue V) (old new : Entries V) → value_of table paper ≡ Some old
-      → after ≡ put_value paper new table → OnOk r (new ≡ put_value reviewer value old) → OnOk r (after ≡ put_pair paper reviewer value table)
-  put-known (Ok u) paper reviewer value table after old new found ends put =
-      let there : reviewers_of table paper ≡ old = ap (λ found. unwrap_or found []) found in
-      ends ∙ ap (λ rows. put_value paper rows table) (put ∙ ap (put_value reviewer value) (sym there))
-  put-known (Err e) paper reviewer value table after old new found ends put = tt
-
-  pub kept-known : {E : Type 0} (r : Result (Unit {0}) E) (paper : List ℕ) (table after : PairsValue V) (old new : Entries V) → Ascend entry_id table → value_of table paper ≡ Some old
-      → after ≡ put_value paper new table → OnErr r (new ≡ old) → OnErr r (after ≡ table)
-  kept-known (Ok u) paper table after old new up found ends kept = tt
-  kept-known (Err e) paper table after old new up found ends kept = ends ∙ ap (λ rows. put_value paper rows table) kept ∙ put-same paper old table up found
 
   pub table-put : (paper reviewer : List ℕ) (value : V) (table : PairsValue V) (count more : ℕ) → IsPairTable table count → more ≡ (if is_some (value_of_pair table paper reviewer) then 0 else 1)
       → count + more ≤ 250000 → IsPairTable (put_pair paper reviewer value table) (count + more)

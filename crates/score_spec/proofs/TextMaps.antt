@@ -5,7 +5,7 @@ use Rattle.std.specs.BTreeMap.{insert_entry, is_at}
 use Rattle.std.specs.Cmp.Lexicographic.{slice_cmp}
 use Rattle.std.specs.Global.{Global}
 use Rattle.std.specs.List.Sorted.{IsStrictlySortedBy}
-use Rattle.std.specs.Map.{keys_of, lookup, set_value}
+use Rattle.std.specs.Map.{keys_of, lookup, set_value, remove_entry}
 use Rattle.std.specs.Option.{option_map, option_copied_mut}
 use Rattle.std.specs.Ordering.{nat_cmp, is_eq, ordering_reverse, match_ordering}
 use Rattle.std.specs.String.{string_bytes}
@@ -15,7 +15,7 @@ use Rattle.std.specs.declared.string.String.{String}
 use Rattle.std.proofs.lemmas.Cmp.{nat_list_cmp_total}
 use Rattle.roster.specs.Table.{id_cmp, by_order, AllAbove, Ascend, row_of, put_row}
 use Rattle.roster.proofs.Tables.{id_same, id_trans, id_turned, id_turned_back}
-use Rattle.score_spec.specs.PairTables.{Entry, Entries, entry_id, value_of, put_value}
+use Rattle.score_spec.specs.PairTables.{Entry, Entries, entry_id, value_of, put_value, without}
 use Rattle.score_spec.specs.TextMaps.{entries_of}
 
 -- how a text compares to keys
@@ -110,3 +110,16 @@ module _ {V : Type 0} where
       → now ≡ set_value (is_at (by_text id)) old value → OnSome place (entries_of now ≡ put_value id value (entries_of old))
   entries-lent None id value old now found up set = tt
   entries-lent (Some slot) id value old now found up set = ap entries_of set ∙ entries-set id value old (ascend-entries old up) (ap is_some (sym found))
+
+  -- an id taken out
+  pub entries-remove : (id : List ℕ) (es : List (String Global × V)) → entries_of (remove_entry (is_at (by_text id)) es) ≡ without id (entries_of es)
+  entries-remove id [] = refl
+  entries-remove id (e ∷ es) = rw (same_test (string_bytes e.0) id) (on (is_eq (id_cmp id (string_bytes e.0))) (entries-remove id es))
+    where
+      old : Entry V
+      old = new_entry (string_bytes e.0) e.1
+
+      on : (b : Bool) → entries_of (remove_entry (is_at (by_text id)) es) ≡ without id (entries_of es)
+          → entries_of (if b then es else e ∷ remove_entry (is_at (by_text id)) es) ≡ (if b then entries_of es else old ∷ without id (entries_of es))
+      on true rest = refl
+      on false rest = ap (λ rows. old ∷ rows) rest

@@ -1,7 +1,8 @@
 -- Tables of pairs: for each paper, in ascending order, its reviewers in ascending order, each with a value.
-use Rattle.std.specs.Prelude.{◌≡◌, ℕ, ◌+◌, ◌≤◌, List, [], length, ◌∷◌, Option, unwrap_or}
+use Rattle.std.specs.Prelude.{◌≡◌, ℕ, ◌+◌, ◌≤◌, List, [], length, ◌∷◌, Option, unwrap_or, if◌then◌else◌}
 use Rattle.std.specs.Option.{option_map}
-use Rattle.roster.specs.Table.{Ascend, row_of, put_row}
+use Rattle.std.specs.Ordering.{is_eq}
+use Rattle.roster.specs.Table.{Ascend, id_cmp, row_of, put_row}
 
 -- an id with what stands for it
 pub record Entry (V : Type 0) : Type 0 where
@@ -21,6 +22,11 @@ value_of entries id = option_map (λ entry. entry.value) (row_of entry_id id ent
 -- the value stands for the id, and all else stays
 abbrev pub put_value : {V : Type 0} → List ℕ → V → Entries V → Entries V
 put_value id value entries = put_row entry_id (record { id = id; value = value }) entries
+
+-- nothing stands for the id, and all else stays
+abbrev pub without : {V : Type 0} → List ℕ → Entries V → Entries V
+without id [] = []
+without id (entry ∷ entries) = if is_eq (id_cmp entry.id id) then entries else entry ∷ without id entries
 
 -- papers with their reviewers
 abbrev pub PairsValue : Type 0 → Type 0

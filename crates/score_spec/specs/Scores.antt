@@ -1,14 +1,19 @@
 -- The values and bids of a conference, and the score of a pair: the weighted sum over all sources.
-use Rattle.std.specs.Prelude.{ℕ, Bool, ◌||◌, ℤ, pos, ◌+ℤ◌, ◌*ℤ◌, List, [], ◌∷◌, Option, is_some, unwrap_or}
+use Rattle.std.specs.Prelude.{ℕ, Bool, true, false, ◌&&◌, ◌||◌, ℤ, pos, ◌+ℤ◌, ◌*ℤ◌, List, [], ◌∷◌, Option, is_some, unwrap_or}
 use Rattle.std.specs.Option.{option_map, option_and_then}
-use Rattle.std.specs.List.{list_any}
-use Rattle.roster.specs.Table.{row_of}
+use Rattle.std.specs.List.{filter, list_any}
+use Rattle.std.specs.Ordering.{is_eq}
+use Rattle.roster.specs.Table.{id_cmp, row_of}
 use Rattle.score_spec.specs.declared.spec.BidWord.{BidWord}
 use Rattle.score_spec.specs.declared.spec.Kind.{Kind}
 use Rattle.score_spec.specs.declared.spec.Kind.TheVariants.{Values, Bids}
 use Rattle.score_spec.specs.declared.spec.Spec.{Spec}
-use Rattle.score_spec.specs.PairTables.{Entries, PairsValue, value_of, value_of_pair}
+use Rattle.score_spec.specs.PairTables.{Entries, PairsValue, value_of, put_value, without, value_of_pair, put_pair}
 use Rattle.score_spec.specs.Sources.{SourceValue}
+
+abbrev pub is_values : Kind → Bool
+is_values Values = true
+is_values Bids = false
 
 -- the tables of the sources of values, by their names, and the words that were bid
 pub record ScoresValue : Type 0 where
@@ -18,6 +23,29 @@ pub record ScoresValue : Type 0 where
 -- the table of a source, which is empty where there is none
 abbrev pub table_of : ScoresValue → List ℕ → PairsValue ℤ
 table_of scores source = unwrap_or (value_of scores.values source) []
+
+abbrev pub no_scores : ScoresValue
+no_scores = record { values = []; bids = [] }
+
+-- the value stands for the pair by the source, and all else stays
+abbrev pub with_value : List ℕ → List ℕ → List ℕ → ℤ → ScoresValue → ScoresValue
+with_value source paper reviewer value scores = record scores { values = put_value source (put_pair paper reviewer value (table_of scores source)) scores.values }
+
+-- the word stands for the pair, and all else stays
+abbrev pub with_bid : List ℕ → List ℕ → List ℕ → ScoresValue → ScoresValue
+with_bid paper reviewer word scores = record scores { bids = put_pair paper reviewer word scores.bids }
+
+-- without the source's table
+abbrev pub without_values : List ℕ → ScoresValue → ScoresValue
+without_values source scores = record scores { values = without source scores.values }
+
+-- the sources have one of values with this name
+abbrev pub has_values : List SourceValue → List ℕ → Bool
+has_values sources name = list_any (λ source. is_values source.kind && is_eq (id_cmp source.name name)) sources
+
+-- the tables of these sources alone
+abbrev pub of_sources : List SourceValue → ScoresValue → ScoresValue
+of_sources sources scores = record scores { values = filter (λ entry. has_values sources entry.id) scores.values }
 
 -- some table of values has the pair, or the table of bids
 abbrev pub has_row : ScoresValue → List ℕ → List ℕ → Bool

@@ -1,7 +1,7 @@
-ghost use Rattle.std.specs.Prelude.{◌≡◌, ◌==◌, [], length, IfOk, OnOk, OnErr};
+ghost use Rattle.std.specs.Prelude.{◌≡◌, ◌==◌, [], length, None, IfOk, OnOk, OnErr};
 ghost use Rattle.std.specs.Borrow.{sem};
 ghost use Rattle.std.specs.Option.{option_copied, option_copied_mut};
-ghost use Rattle.score_spec.specs.PairTables.{entry_id, put_value, value_of};
+ghost use Rattle.score_spec.specs.PairTables.{entry_id, put_value, value_of, without};
 ghost use Rattle.roster.specs.Table.{Ascend};
 ghost use Rattle.score_spec.specs.TextMaps.{entries_of};
 
@@ -40,7 +40,7 @@ impl TableValue for Text {
 /// Values by ids, in the order of the ids' bytes.
 #[derive(Drop)]
 pub struct ById<V> {
-    map: BTreeMap<String, V>,
+    pub(crate) map: BTreeMap<String, V>,
 }
 
 impl<V> Model for ById<V> {
@@ -116,6 +116,16 @@ impl<V> ById<V> {
             }
             None => self.add(alloc, id, value),
         }
+    }
+
+    /// Drops the value of an id. Takes no memory.
+    pub(crate) fn remove(&mut self, id: &str)
+    where
+        V: Drop,
+        ensures removed { self.new ≡ without id.now self.old }
+        ensures none { value_of self.new id.now ≡ None }
+    {
+        self.map.remove(id);
     }
 
     fn add(&mut self, alloc: Global, id: &str, value: V) -> Result<(), AllocError>

@@ -7,6 +7,7 @@ mod magnitude;
 mod numbers;
 mod pairs;
 mod scan;
+mod scores;
 mod spec;
 #[cfg(test)]
 mod tests;
@@ -16,5 +17,6 @@ pub use by_id::{ById, TableValue};
 pub use examples::{worked_scores, worked_tables};
 pub use numbers::{NumberFault, Value, read_value};
 pub use pairs::{PairTable, ScoresFault};
+pub use scores::{PairKey, Scores};
 pub use spec::{BidWord, Kind, SourceSpec, Sources, Spec, Words};
 pub use text::Text;

@@ -136,11 +136,8 @@ impl<V> PairTable<V> {
     }
 }
 
-impl<V: TableValue> PairTable<V> {
-    /// An equal table.
-    pub fn copy(&self, alloc: Global) -> Result<Self, AllocError>
-        ensures { IfOk result (λ copy. copy ≡ self.now) }
-    {
+impl<V: TableValue> TableValue for PairTable<V> {
+    fn copy(&self, alloc: Global) -> Result<Self, AllocError> {
         let papers = self.papers.copy(alloc)?;
         Ok(PairTable {
             alloc,
