@@ -5,3 +5,4 @@ pub mod Grammar
 pub mod TextMaps
 pub mod PairTables
 pub mod SourceTables
+pub mod Products

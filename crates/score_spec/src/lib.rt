@@ -12,6 +12,7 @@ mod spec;
 #[cfg(test)]
 mod tests;
 mod text;
+mod weighing;
 
 pub use by_id::{ById, TableValue};
 pub use examples::{worked_scores, worked_tables};
@@ -20,3 +21,4 @@ pub use pairs::{PairTable, ScoresFault};
 pub use scores::{PairKey, Scores};
 pub use spec::{BidWord, Kind, SourceSpec, Sources, Spec, Words};
 pub use text::Text;
+pub use weighing::score;
