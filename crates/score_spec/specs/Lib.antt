@@ -3,3 +3,8 @@ pub mod Spelling
 pub mod Reading
 pub mod Scanning
 pub mod Sources
+pub mod PairTables
+pub mod Scores
+pub mod Examples
+pub mod TextMaps
+pub mod Lending

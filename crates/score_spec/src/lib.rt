@@ -1,14 +1,24 @@
 // Values of affinity as text and as numbers, and the score of a pair as a weighted sum of its sources.
 #![tactic(auto)]
 
+mod by_id;
+mod examples;
 mod magnitude;
 mod numbers;
+mod pairs;
 mod scan;
+mod scores;
 mod spec;
 #[cfg(test)]
 mod tests;
 mod text;
+mod weighing;
 
+pub use by_id::{ById, TableValue};
+pub use examples::{worked_scores, worked_tables};
 pub use numbers::{NumberFault, Value, read_value};
+pub use pairs::{PairTable, ScoresFault};
+pub use scores::{PairKey, Scores};
 pub use spec::{BidWord, Kind, SourceSpec, Sources, Spec, Words};
 pub use text::Text;
+pub use weighing::score;

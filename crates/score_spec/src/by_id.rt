@@ -1,0 +1,151 @@
+ghost use Rattle.std.specs.Prelude.{◌≡◌, ◌==◌, [], length, None, IfOk, OnOk, OnErr};
+ghost use Rattle.std.specs.Borrow.{sem};
+ghost use Rattle.std.specs.Option.{option_copied, option_copied_mut};
+ghost use Rattle.score_spec.specs.PairTables.{entry_id, put_value, value_of, without};
+ghost use Rattle.roster.specs.Table.{Ascend};
+ghost use Rattle.score_spec.specs.TextMaps.{entries_of};
+
+use crate::numbers::Value;
+use crate::text::Text;
+use std::alloc::{AllocError, Global};
+use std::collections::BTreeMap;
+use std::collections::btree_map::Iter;
+use std::marker::Model;
+
+/// What a table keeps.
+pub trait TableValue: Drop {
+    /// An equal value.
+    fn copy(&self, alloc: Global) -> Result<Self, AllocError>
+        ensures { IfOk result (λ copy. copy ≡ self.now) };
+}
+
+impl TableValue for i32 {
+    fn copy(&self, _alloc: Global) -> Result<Self, AllocError> {
+        Ok(*self)
+    }
+}
+
+impl TableValue for Value {
+    fn copy(&self, _alloc: Global) -> Result<Self, AllocError> {
+        Ok(*self)
+    }
+}
+
+impl TableValue for Text {
+    fn copy(&self, alloc: Global) -> Result<Self, AllocError> {
+        self.copy(alloc)
+    }
+}
+
+/// Values by ids, in the order of the ids' bytes.
+#[derive(Drop)]
+pub struct ById<V> {
+    pub(crate) map: BTreeMap<String, V>,
+}
+
+impl<V> Model for ById<V> {
+    ghost use Rattle.score_spec.specs.PairTables.{Entries};
+    ghost use Rattle.score_spec.specs.TextMaps.{entries_of};
+
+    ghost Value = { Entries V };
+
+    ghost view = { λ m. entries_of m.map.entries };
+}
+
+impl<V> ById<V> {
+    ghost use Rattle.score_spec.specs.Lending.{PutsThrough};
+
+    /// No values. Takes no memory.
+    pub fn new(alloc: Global) -> Self
+        ensures { result ≡ [] }
+    {
+        ById {
+            map: BTreeMap::new(alloc),
+        }
+    }
+
+    /// The number of values.
+    pub fn len(&self) -> usize
+        ensures { result ≡ length self.now }
+    {
+        self.map.len()
+    }
+
+    /// Whether there are none.
+    pub fn is_empty(&self) -> bool
+        ensures { result ≡ (length self.now == 0) }
+    {
+        self.map.is_empty()
+    }
+
+    /// The value of an id, in logarithmic time and without memory.
+    pub fn get(&self, id: &str) -> Option<&V>
+        ensures { option_copied result ≡ value_of self.now id.now }
+    {
+        self.map.get(id)
+    }
+
+    /// The ids with their values, in order and without memory.
+    pub fn iter(&self) -> Iter<'_, String, V>
+        ensures same { entries_of result ≡ self.now }
+        ensures ascend { Ascend entry_id self.now }
+    {
+        self.map.iter()
+    }
+
+    /// The place of an id's value, in logarithmic time and without memory.
+    pub(crate) fn get_mut(&mut self, id: &str) -> Option<&mut V>
+        ensures* writes_back { sem 𝓛 (PutsThrough V.row self.entry id.now result) }
+        ensures value { option_copied_mut result ≡ value_of self.old id.now }
+        ensures ascend { Ascend entry_id self.old }
+    {
+        self.map.get_mut(id)
+    }
+
+    /// Puts a value for an id, in place of the one that it had. Memory is taken where the id is new.
+    pub(crate) fn put(&mut self, alloc: Global, id: &str, value: V) -> Result<(), AllocError>
+    where
+        V: Drop,
+        ensures put { OnOk result (self.new ≡ put_value id.now value self.old) }
+        ensures kept { OnErr result (self.new ≡ self.old) }
+    {
+        match self.get_mut(id) {
+            Some(place) => {
+                *place = value;
+                Ok(())
+            }
+            None => self.add(alloc, id, value),
+        }
+    }
+
+    /// Drops the value of an id. Takes no memory.
+    pub(crate) fn remove(&mut self, id: &str)
+    where
+        V: Drop,
+        ensures removed { self.new ≡ without id.now self.old }
+        ensures none { value_of self.new id.now ≡ None }
+    {
+        self.map.remove(id);
+    }
+
+    fn add(&mut self, alloc: Global, id: &str, value: V) -> Result<(), AllocError>
+    where
+        V: Drop,
+        ensures put { OnOk result (self.new ≡ put_value id.now value self.old) }
+        ensures kept { OnErr result (self.new ≡ self.old) }
+    {
+        let key = String::from_str(alloc, id)?;
+        self.map.insert(key, value)?;
+        Ok(())
+    }
+}
+
+impl<V: TableValue> TableValue for ById<V> {
+    fn copy(&self, alloc: Global) -> Result<Self, AllocError> {
+        let mut copy = ById::new(alloc);
+        for (id, value) in self.iter() {
+            copy.put(alloc, id.as_str(), value.copy(alloc)?)?;
+        }
+        Ok(copy)
+    }
+}

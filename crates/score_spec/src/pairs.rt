@@ -1,0 +1,148 @@
+ghost use Rattle.std.specs.Prelude.{◌≡◌, ◌==◌, ◌↔◌, ◌≢◌, ◌⊎◌, ◌≤◌, [], ℕ, List, None, Some, Err, if◌then◌else◌, is_some, IfOk, OnOk, OnErr};
+ghost use Rattle.std.specs.Option.{option_copied};
+ghost use Rattle.score_spec.specs.PairTables.{ArePairs, pair_count, put_pair, value_of_pair};
+
+use crate::by_id::{ById, TableValue};
+use match_rules::{PaperId, ReviewerId};
+use std::alloc::{AllocError, Global};
+use std::marker::Model;
+
+/// Why a row was not put.
+#[derive(Clone, Copy, PartialEq, Eq, Debug)]
+pub enum ScoresFault {
+    /// So many rows are there that no new key has room.
+    TooMany,
+    /// Memory was wanting.
+    Memory,
+}
+
+// Puts a value for a paper and a reviewer.
+fn put_in<V: Drop>(
+    alloc: Global,
+    papers: &mut ById<ById<V>>,
+    paper: &str,
+    reviewer: &str,
+    value: V,
+) -> Result<(), AllocError>
+    ensures put { OnOk result (papers.new ≡ put_pair paper.now reviewer.now value papers.old) }
+    ensures kept { OnErr result (papers.new ≡ papers.old) }
+{
+    if let Some(reviewers) = papers.get_mut(paper) {
+        return reviewers.put(alloc, reviewer, value);
+    }
+    let mut reviewers = ById::new(alloc);
+    reviewers.put(alloc, reviewer, value)?;
+    papers.put(alloc, paper, reviewers)
+}
+
+/// Values of pairs, at most 250,000, by paper and then by reviewer, in the order of their ids' bytes. Contracts see
+/// for each paper its reviewers with their values.
+#[derive(Drop)]
+pub struct PairTable<V> {
+    alloc: Global,
+    papers: ById<ById<V>>,
+    count: u32,
+}
+
+impl<V> Model for PairTable<V> {
+    ghost use Rattle.score_spec.specs.PairTables.{PairsValue, IsPairTable};
+
+    ghost Value = { PairsValue V };
+
+    ghost view = { λ t. t.papers };
+
+    ghost invariant = { λ t. IsPairTable t.papers t.count };
+}
+
+impl<V> PairTable<V> {
+    /// A table without values. Takes no memory.
+    pub fn new(alloc: Global) -> Self
+        ensures { result ≡ [] }
+    {
+        PairTable {
+            alloc,
+            papers: ById::new(alloc),
+            count: 0,
+        }
+    }
+
+    /// The number of pairs that have a value.
+    pub fn len(&self) -> u32
+        ensures count { result ≡ pair_count self.now }
+        ensures few { result ≤ 250000 }
+    {
+        self.count
+    }
+
+    /// Whether no pair has a value.
+    pub fn is_empty(&self) -> bool
+        ensures { result ≡ (pair_count self.now == 0) }
+    {
+        self.count == 0
+    }
+
+    /// For each paper in order, its reviewers in order, with their values.
+    pub fn papers(&self) -> &ById<ById<V>>
+        ensures same { result.now ≡ self.now }
+        ensures pairs { ArePairs self.now }
+    {
+        &self.papers
+    }
+
+    /// The value of a pair, in logarithmic time and without memory.
+    pub fn get(&self, paper: &str, reviewer: &str) -> Option<&V>
+        ensures { option_copied result ≡ value_of_pair self.now paper.now reviewer.now }
+    {
+        self.papers.get(paper)?.get(reviewer)
+    }
+
+    // How many rows a value for the pair adds.
+    fn more_for(&self, paper: &str, reviewer: &str) -> u32
+        ensures { result ≡ (if is_some (value_of_pair self.now paper.now reviewer.now) then 0 else 1) }
+    {
+        match self.get(paper, reviewer) {
+            Some(_) => 0,
+            None => 1,
+        }
+    }
+
+    /// Puts a value for a pair, in place of the one that it had. Takes memory where the pair is new.
+    pub fn put(&mut self, paper: PaperId, reviewer: ReviewerId, value: V) -> Result<(), ScoresFault>
+    where
+        V: Drop,
+        ensures put { OnOk result (self.new ≡ put_pair paper reviewer value self.old) }
+        ensures stands { OnOk result (value_of_pair self.new paper reviewer ≡ Some value) }
+        ensures others { OnOk result ((p r : List ℕ) → (p ≢ paper) ⊎ (r ≢ reviewer) → value_of_pair self.new p r ≡ value_of_pair self.old p r) }
+        ensures full { (result ≡ Err ScoresFault.TooMany) ↔ ((value_of_pair self.old paper reviewer ≡ None) × (pair_count self.old ≡ 250000)) }
+        ensures kept { OnErr result (self.new ≡ self.old) }
+    {
+        let more = self.more_for(paper.text(), reviewer.text());
+        if self.count + more > 250_000 {
+            return Err(ScoresFault::TooMany);
+        }
+        match put_in(
+            self.alloc,
+            &mut self.papers,
+            paper.text(),
+            reviewer.text(),
+            value,
+        ) {
+            Ok(()) => {
+                self.count += more;
+                Ok(())
+            }
+            Err(_) => Err(ScoresFault::Memory),
+        }
+    }
+}
+
+impl<V: TableValue> TableValue for PairTable<V> {
+    fn copy(&self, alloc: Global) -> Result<Self, AllocError> {
+        let papers = self.papers.copy(alloc)?;
+        Ok(PairTable {
+            alloc,
+            papers,
+            count: self.count,
+        })
+    }
+}

@@ -1,0 +1,161 @@
+ghost use Rattle.std.specs.Prelude.{◌≡◌, ◌↔◌, ◌≢◌, ◌⊎◌, [], ℕ, List, None, Some, Err, IfOk, OnOk, OnErr};
+ghost use Rattle.std.specs.Option.{option_copied, unwrap_or};
+ghost use Rattle.score_spec.specs.PairTables.{pair_count, put_pair, put_value, value_of, value_of_pair};
+
+use crate::by_id::{ById, TableValue};
+use crate::numbers::Value;
+use crate::pairs::{PairTable, ScoresFault};
+use crate::spec::Spec;
+use crate::text::Text;
+use match_rules::{PaperId, ReviewerId};
+use std::alloc::{AllocError, Global};
+use std::marker::Model;
+
+/// A paper and a reviewer.
+#[derive(Drop)]
+pub struct PairKey {
+    pub paper: PaperId,
+    pub reviewer: ReviewerId,
+}
+
+// Puts a value into the table of a source.
+fn put_in(
+    alloc: Global,
+    tables: &mut ById<PairTable<Value>>,
+    source: &str,
+    paper: PaperId,
+    reviewer: ReviewerId,
+    value: Value,
+) -> Result<(), ScoresFault>
+    ensures put { OnOk result (tables.new ≡ put_value source.now (put_pair paper reviewer value (unwrap_or (value_of tables.old source.now) [])) tables.old) }
+    ensures full { (result ≡ Err ScoresFault.TooMany) ↔ ((value_of_pair (unwrap_or (value_of tables.old source.now) []) paper reviewer ≡ None) × (pair_count (unwrap_or (value_of tables.old source.now) []) ≡ 250000)) }
+    ensures kept { OnErr result (tables.new ≡ tables.old) }
+{
+    if let Some(table) = tables.get_mut(source) {
+        return table.put(paper, reviewer, value);
+    }
+    let mut table = PairTable::new(alloc);
+    table.put(paper, reviewer, value)?;
+    match tables.put(alloc, source, table) {
+        Ok(()) => Ok(()),
+        Err(_) => Err(ScoresFault::Memory),
+    }
+}
+
+/// The values and bids of a conference: a table of values for each source that has one, and the bids' words.
+#[derive(Drop)]
+pub struct Scores {
+    alloc: Global,
+    values: ById<PairTable<Value>>,
+    bids: PairTable<Text>,
+}
+
+impl Model for Scores {
+    ghost use Rattle.score_spec.specs.Scores.{ScoresValue};
+
+    ghost Value = { ScoresValue };
+
+    ghost view = { λ s. record { values = s.values; bids = s.bids } };
+}
+
+impl Scores {
+    ghost use Rattle.score_spec.specs.Scores.{no_scores, of_sources, table_of, with_bid, with_value, without_values};
+
+    /// No values and no bids. Takes no memory.
+    pub fn new(alloc: Global) -> Self
+        ensures { result ≡ no_scores }
+    {
+        Scores {
+            alloc,
+            values: ById::new(alloc),
+            bids: PairTable::new(alloc),
+        }
+    }
+
+    /// The table of a source's values, where there is one.
+    pub fn values(&self, source: &str) -> Option<&PairTable<Value>>
+        ensures { option_copied result ≡ value_of self.now.values source.now }
+    {
+        self.values.get(source)
+    }
+
+    /// The tables of values, by the names of their sources.
+    pub fn tables(&self) -> &ById<PairTable<Value>>
+        ensures { result.now ≡ self.now.values }
+    {
+        &self.values
+    }
+
+    /// The words that were bid.
+    pub fn bids(&self) -> &PairTable<Text>
+        ensures { result.now ≡ self.now.bids }
+    {
+        &self.bids
+    }
+
+    /// Puts the value of a pair by a source, in place of the one that it had.
+    pub fn put_value(
+        &mut self,
+        source: &str,
+        paper: PaperId,
+        reviewer: ReviewerId,
+        value: Value,
+    ) -> Result<(), ScoresFault>
+        ensures put { OnOk result (self.new ≡ with_value source.now paper reviewer value self.old) }
+        ensures stands { OnOk result (value_of_pair (table_of self.new source.now) paper reviewer ≡ Some value) }
+        ensures others { OnOk result ((name p r : List ℕ) → (name ≢ source.now) ⊎ ((p ≢ paper) ⊎ (r ≢ reviewer)) → value_of_pair (table_of self.new name) p r ≡ value_of_pair (table_of self.old name) p r) }
+        ensures bids { self.new.bids ≡ self.old.bids }
+        ensures full { (result ≡ Err ScoresFault.TooMany) ↔ ((value_of_pair (table_of self.old source.now) paper reviewer ≡ None) × (pair_count (table_of self.old source.now) ≡ 250000)) }
+        ensures kept { OnErr result (self.new ≡ self.old) }
+    {
+        put_in(self.alloc, &mut self.values, source, paper, reviewer, value)
+    }
+
+    /// Puts the word that was bid for a pair, in place of the one that it had.
+    pub fn put_bid(
+        &mut self,
+        paper: PaperId,
+        reviewer: ReviewerId,
+        word: Text,
+    ) -> Result<(), ScoresFault>
+        ensures put { OnOk result (self.new ≡ with_bid paper reviewer word self.old) }
+        ensures stands { OnOk result (value_of_pair self.new.bids paper reviewer ≡ Some word) }
+        ensures others { OnOk result ((p r : List ℕ) → (p ≢ paper) ⊎ (r ≢ reviewer) → value_of_pair self.new.bids p r ≡ value_of_pair self.old.bids p r) }
+        ensures values { self.new.values ≡ self.old.values }
+        ensures full { (result ≡ Err ScoresFault.TooMany) ↔ ((value_of_pair self.old.bids paper reviewer ≡ None) × (pair_count self.old.bids ≡ 250000)) }
+        ensures kept { OnErr result (self.new ≡ self.old) }
+    {
+        self.bids.put(paper, reviewer, word)
+    }
+
+    /// Drops the table of a source's values. Takes no memory.
+    pub fn clear_values(&mut self, source: &str)
+        ensures cleared { self.new ≡ without_values source.now self.old }
+        ensures none { table_of self.new source.now ≡ [] }
+        ensures others { (name : List ℕ) → name ≢ source.now → table_of self.new name ≡ table_of self.old name }
+        ensures bids { self.new.bids ≡ self.old.bids }
+    {
+        self.values.remove(source);
+    }
+
+    /// Drops the bids. Takes no memory.
+    pub fn clear_bids(&mut self)
+        ensures none { self.new.bids ≡ [] }
+        ensures values { self.new.values ≡ self.old.values }
+    {
+        self.bids = PairTable::new(self.alloc);
+    }
+
+    /// Equal values and bids.
+    pub fn copy(&self, alloc: Global) -> Result<Self, AllocError>
+        ensures { IfOk result (λ copy. copy ≡ self.now) }
+    {
+        let values = self.values.copy(alloc)?;
+        let bids = self.bids.copy(alloc)?;
+        Ok(Scores {
+            alloc,
+            values,
+            bids,
+        })
+    }
+}
