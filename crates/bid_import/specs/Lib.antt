@@ -2,3 +2,4 @@ pub mod Fields
 pub mod Files
 pub mod Kinds
 pub mod Names
+pub mod Settings
