@@ -3,3 +3,4 @@ pub mod Files
 pub mod Kinds
 pub mod Names
 pub mod Settings
+pub mod Documents
