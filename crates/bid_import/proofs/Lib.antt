@@ -6,3 +6,4 @@ pub mod Progress
 pub mod Streams
 pub mod Tables
 pub mod Texts
+pub mod Worked

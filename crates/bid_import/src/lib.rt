@@ -2,6 +2,7 @@
 #![tactic(auto)]
 
 mod document;
+mod examples;
 mod fault;
 mod fields;
 mod first;
@@ -15,6 +16,7 @@ mod sources;
 mod tests;
 mod words;
 
+pub use examples::{worked_loads, worked_settings, worked_sources};
 pub use fault::{Code, FileKind, ImportFault, Key};
 pub use first::first_row;
 pub use kinds::{read_bids, read_caps, read_marks, read_papers, read_reviewers, read_values};
