@@ -63,7 +63,7 @@ mark_row fields = from_three mark_row_of (three_of fields)
 abbrev pub cap_row : List (List ℕ) → Result CapRow Code
 cap_row fields = from_three cap_row_of (three_of fields)
 
--- the names of columns are text
+-- ASCII is text, and so are the names of columns
 
 and-first : (a b : Bool) → a && b ≡ true → (a ≡ true) × (b ≡ true)
 and-first true b h = (refl, h)
@@ -74,50 +74,50 @@ ascii [] h i = omega arith
 ascii (b ∷ bs) h zero = ltb-true b 128 (and-first (nat_lt b 128) (list_all (λ b. nat_lt b 128) bs) h).0
 ascii (b ∷ bs) h (suc i) = ascii bs (and-first (nat_lt b 128) (list_all (λ b. nat_lt b 128) bs) h).1 i
 
-text : (bs : List ℕ) → list_all (λ b. nat_lt b 128) bs ≡ true → is_utf8 bs ≡ true
-text bs h = is_utf8-from_IsUtf8 bs (IsUtf8-from_ascii bs (ascii bs h))
+pub ascii_is_text : (bs : List ℕ) → list_all (λ b. nat_lt b 128) bs ≡ true → is_utf8 bs ≡ true
+ascii_is_text bs h = is_utf8-from_IsUtf8 bs (IsUtf8-from_ascii bs (ascii bs h))
 
 pub paper_columns-text : list_all is_utf8 paper_columns ≡ true
 paper_columns-text =
-    let t0 = text (codes "paper") refl in
-    let t1 = text (codes "demand") refl in
-    let t2 = text (codes "institutions") refl in
+    let t0 = ascii_is_text (codes "paper") refl in
+    let t1 = ascii_is_text (codes "demand") refl in
+    let t2 = ascii_is_text (codes "institutions") refl in
     rw (t0, t1, t2) refl
 
 pub reviewer_columns-text : list_all is_utf8 reviewer_columns ≡ true
 reviewer_columns-text =
-    let t0 = text (codes "reviewer") refl in
-    let t1 = text (codes "institution") refl in
-    let t2 = text (codes "least") refl in
-    let t3 = text (codes "greatest") refl in
+    let t0 = ascii_is_text (codes "reviewer") refl in
+    let t1 = ascii_is_text (codes "institution") refl in
+    let t2 = ascii_is_text (codes "least") refl in
+    let t3 = ascii_is_text (codes "greatest") refl in
     rw (t0, t1, t2, t3) refl
 
 pub value_columns-text : list_all is_utf8 value_columns ≡ true
 value_columns-text =
-    let t0 = text (codes "paper") refl in
-    let t1 = text (codes "reviewer") refl in
-    let t2 = text (codes "value") refl in
+    let t0 = ascii_is_text (codes "paper") refl in
+    let t1 = ascii_is_text (codes "reviewer") refl in
+    let t2 = ascii_is_text (codes "value") refl in
     rw (t0, t1, t2) refl
 
 pub bid_columns-text : list_all is_utf8 bid_columns ≡ true
 bid_columns-text =
-    let t0 = text (codes "paper") refl in
-    let t1 = text (codes "reviewer") refl in
-    let t2 = text (codes "bid") refl in
+    let t0 = ascii_is_text (codes "paper") refl in
+    let t1 = ascii_is_text (codes "reviewer") refl in
+    let t2 = ascii_is_text (codes "bid") refl in
     rw (t0, t1, t2) refl
 
 pub mark_columns-text : list_all is_utf8 mark_columns ≡ true
 mark_columns-text =
-    let t0 = text (codes "paper") refl in
-    let t1 = text (codes "reviewer") refl in
-    let t2 = text (codes "mark") refl in
+    let t0 = ascii_is_text (codes "paper") refl in
+    let t1 = ascii_is_text (codes "reviewer") refl in
+    let t2 = ascii_is_text (codes "mark") refl in
     rw (t0, t1, t2) refl
 
 pub cap_columns-text : list_all is_utf8 cap_columns ≡ true
 cap_columns-text =
-    let t0 = text (codes "paper") refl in
-    let t1 = text (codes "reviewer") refl in
-    let t2 = text (codes "cap") refl in
+    let t0 = ascii_is_text (codes "paper") refl in
+    let t1 = ascii_is_text (codes "reviewer") refl in
+    let t2 = ascii_is_text (codes "cap") refl in
     rw (t0, t1, t2) refl
 
 pub columns_of-text : (file : FileKind) → list_all is_utf8 (columns_of file) ≡ true

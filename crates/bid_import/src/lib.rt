@@ -1,16 +1,24 @@
 // The files of a conference as rows: papers, reviewers, values, bids, marks, caps.
 #![tactic(auto)]
 
+mod document;
+mod examples;
 mod fault;
 mod fields;
 mod first;
+mod keys;
 mod kinds;
 mod records;
 mod rows;
+mod settings;
+mod sources;
 #[cfg(test)]
 mod tests;
+mod words;
 
+pub use examples::{worked_loads, worked_settings, worked_sources};
 pub use fault::{Code, FileKind, ImportFault, Key};
 pub use first::first_row;
 pub use kinds::{read_bids, read_caps, read_marks, read_papers, read_reviewers, read_values};
 pub use rows::{BidRow, CapRow, MarkRow, ValueRow};
+pub use settings::{Settings, read_settings};

@@ -21,16 +21,16 @@ pub(crate) trait RowKind {
     ghost row_of: { Self → List (List ℕ) → Result Self.Row Code };
 
     /// Whether the fields are the names of the columns.
-    fn is_header(&self, record: &StringRecord) -> bool
-        ensures { result ≡ is_header columns (fields_of record.now) };
+    fn is_header(&self, found: &StringRecord) -> bool
+        ensures { result ≡ is_header columns (fields_of found.now) };
 
     /// The most records beside the names of the columns.
     fn most(&self) -> usize
         ensures { result ≡ most };
 
     /// The row of a record of text.
-    fn row(&self, alloc: Global, record: &StringRecord) -> Result<Self::Row, RowFault>
-        ensures { Reads result (row_of self.now (fields_of record.now)) };
+    fn row(&self, alloc: Global, found: &StringRecord) -> Result<Self::Row, RowFault>
+        ensures { Reads result (row_of self.now (fields_of found.now)) };
 
     ghost texts: { list_all is_utf8 columns ≡ true };
 

@@ -1,3 +1,5 @@
+mod settings;
+
 use crate::{
     Code, FileKind, ImportFault, first_row, read_bids, read_caps, read_marks, read_papers,
     read_reviewers, read_values,

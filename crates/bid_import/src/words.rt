@@ -1,0 +1,106 @@
+// The bid words of a document of settings.
+
+ghost use Rattle.std.specs.Prelude.{◌≡◌, ◌≤ℤ◌, pos, neg_ℤ, ok_or, IfOk};
+ghost use Rattle.toml.specs.View.{view, table_view};
+ghost use Rattle.roster.specs.Table.{Ascend};
+ghost use Rattle.score_spec.specs.declared.spec.BidWord.{BidWord};
+ghost use Rattle.bid_import.specs.Documents.{ReadsKey, ReadsItems};
+ghost use Rattle.bid_import.specs.Settings.{bid_word, default_words, word_from, words_from, words_of, entries, each};
+
+use crate::document::{KeyFault, at, fixed, value};
+use crate::fault::Key;
+use score_spec::{BidWord, Text, Words};
+use std::alloc::{AllocError, Global};
+use toml::Table;
+
+fn word_of(alloc: Global, key: &str, node: &toml::Value) -> Result<BidWord, KeyFault>
+    ensures { ReadsKey result (ok_or (word_from (key.now, view node.now)) Key.Bids) }
+{
+    if key.is_empty() {
+        return Err(KeyFault::At(Key::Bids));
+    }
+    if key.len() > 64 {
+        return Err(KeyFault::At(Key::Bids));
+    }
+    let value = match value(node) {
+        Some(value) => value,
+        None => return Err(KeyFault::At(Key::Bids)),
+    };
+    match Text::read(alloc, key) {
+        Ok(word) => Ok(BidWord { word, value }),
+        Err(_) => Err(KeyFault::Memory),
+    }
+}
+
+fn all_words(alloc: Global, table: &Table) -> Result<Vec<BidWord>, KeyFault>
+    ensures same { ReadsItems result (ok_or (each word_from (entries (table_view table.now))) Key.Bids) }
+    ensures order { IfOk result (λ words. Ascend (λ (w : BidWord). w.word) words.items) }
+{
+    let mut words = Vec::new(alloc);
+    for (key, node) in table.iter() {
+        let word = match word_of(alloc, key.as_str(), node) {
+            Ok(word) => word,
+            Err(fault) => return Err(fault),
+        };
+        if words.push(word).is_err() {
+            return Err(KeyFault::Memory);
+        }
+    }
+    Ok(words)
+}
+
+fn words_of(alloc: Global, node: &toml::Value) -> Result<Words, KeyFault>
+    ensures same { ReadsKey result (ok_or (words_from (view node.now)) Key.Bids) }
+    ensures order { IfOk result (λ words. Ascend (λ (w : BidWord). w.word) words) }
+{
+    let table = match node.as_table() {
+        Some(table) => table,
+        None => return Err(KeyFault::At(Key::Bids)),
+    };
+    if table.len() > 32 {
+        return Err(KeyFault::At(Key::Bids));
+    }
+    match all_words(alloc, table) {
+        Ok(words) => Ok(Words::from_vec(words)),
+        Err(fault) => Err(fault),
+    }
+}
+
+fn word(alloc: Global, text: &str, tenthousandths: i32) -> Result<BidWord, AllocError>
+    requires low { neg_ℤ (pos 100000) ≤ℤ tenthousandths }
+    requires high { tenthousandths ≤ℤ pos 100000 }
+    ensures { IfOk result (λ word. word ≡ bid_word text.now tenthousandths) }
+{
+    let word = Text::read(alloc, text)?;
+    Ok(BidWord {
+        word,
+        value: fixed(tenthousandths),
+    })
+}
+
+/// The words of settings that have none.
+pub(crate) fn default_words(alloc: Global) -> Result<Words, AllocError>
+    ensures { IfOk result (λ words. words ≡ default_words) }
+{
+    let mut words = Vec::new(alloc);
+    words.push(word(alloc, "High", 5_000)?)?;
+    words.push(word(alloc, "Low", -5_000)?)?;
+    words.push(word(alloc, "Neutral", 0)?)?;
+    words.push(word(alloc, "Very High", 10_000)?)?;
+    words.push(word(alloc, "Very Low", -10_000)?)?;
+    Ok(Words::from_vec(words))
+}
+
+/// The words of bids, in the order of their bytes.
+pub(crate) fn words(alloc: Global, table: &Table) -> Result<Words, KeyFault>
+    ensures same { ReadsKey result (words_of (table_view table.now)) }
+    ensures order { IfOk result (λ words. Ascend (λ (w : BidWord). w.word) words) }
+{
+    match at(table, "bids") {
+        Some(node) => words_of(alloc, node),
+        None => match default_words(alloc) {
+            Ok(words) => Ok(words),
+            Err(_) => Err(KeyFault::Memory),
+        },
+    }
+}
