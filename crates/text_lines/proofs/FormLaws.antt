@@ -11,7 +11,7 @@ use Rattle.text_lines.specs.declared.fault.LineCode.{LineCode}
 use Rattle.text_lines.specs.declared.fault.LineCode.TheVariants.{Form, Number, Range}
 use Rattle.text_lines.specs.declared.fault.TextFault.{TextFault}
 use Rattle.text_lines.specs.declared.fault.ReadError.{ReadError}
-use Rattle.text_lines.specs.Fields.{fields, with_spaces, two_of, three_of, three_or_four_of, five_of}
+use Rattle.text_lines.specs.Fields.{fields, with_spaces, two_of, three_or_four_of, five_of}
 use Rattle.text_lines.specs.Forms.{fixed, in_form, only_if, integer_from, number_from, counted, counted_of, section_at, count_line, section_text}
 use Rattle.text_lines.specs.Numbers.{is_canonical, is_canonical_signed, value, signed_value, size}
 use Rattle.text_lines.specs.Reading.{◌>>=◌, Cursor, Gives, due, items_at, following}
@@ -85,16 +85,6 @@ two_of_is (a ∷ b ∷ c ∷ parts) f e = absurd cc
 -- two fields that a line has spell it
 pub two_fields_spell : (line : List ℕ) (f : List ℕ × List ℕ) → in_form (two_of (fields line)) ≡ Ok f → line ≡ with_spaces (f.0 ∷ f.1 ∷ [])
 two_fields_spell line f e = sym (with_spaces-fields line) ∙ ap with_spaces (two_of_is (fields line) f (in_form_ok (two_of (fields line)) f e))
-
-three_of_is : (parts : List (List ℕ)) (f : List ℕ × List ℕ × List ℕ) → three_of parts ≡ Some f → parts ≡ f.0 ∷ f.1 ∷ f.2 ∷ []
-three_of_is [] f e = absurd cc
-three_of_is (a ∷ []) f e = absurd cc
-three_of_is (a ∷ b ∷ []) f e = absurd cc
-three_of_is (a ∷ b ∷ c ∷ []) f e = cc
-three_of_is (a ∷ b ∷ c ∷ d ∷ parts) f e = absurd cc
-
-pub three_fields_spell : (line : List ℕ) (f : List ℕ × List ℕ × List ℕ) → in_form (three_of (fields line)) ≡ Ok f → line ≡ with_spaces (f.0 ∷ f.1 ∷ f.2 ∷ [])
-three_fields_spell line f e = sym (with_spaces-fields line) ∙ ap with_spaces (three_of_is (fields line) f (in_form_ok (three_of (fields line)) f e))
 
 three_or_four_of_is : (parts : List (List ℕ)) (f : List ℕ × List ℕ × List ℕ × Option (List ℕ)) → three_or_four_of parts ≡ Some f → parts ≡ f.0 ∷ f.1 ∷ f.2 ∷ option_to_list f.3
 three_or_four_of_is [] f e = absurd cc

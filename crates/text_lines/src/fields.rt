@@ -29,8 +29,7 @@ pub fn two_fields(line: &str) -> Option<(&str, &str)>
     Some((first, second))
 }
 
-/// The three fields of a line, where it has just three.
-pub fn three_fields(line: &str) -> Option<(&str, &str, &str)>
+fn three_fields(line: &str) -> Option<(&str, &str, &str)>
     ensures { option_map (λ parts. (parts.0.now, parts.1.now, parts.2.now)) result ≡ three_of (fields line.now) }
 {
     let (first, rest) = first_field(line)?;

@@ -10,9 +10,7 @@ mod number;
 mod words;
 
 pub use fault::{LineCode, LineError, ReadError, TextFault};
-pub use fields::{
-    first_field, five_fields, one_field, three_fields, three_or_four_fields, two_fields,
-};
+pub use fields::{first_field, five_fields, one_field, three_or_four_fields, two_fields};
 pub use form::{LineForm, read_items, read_line};
 pub use line_buffer::{LINE_ROOM, LineBuffer};
 pub use lines::{LONGEST_LINE, Lines};

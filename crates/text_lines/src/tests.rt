@@ -30,7 +30,12 @@ fn fields_are_counted(rt: HostRuntime) {
     assert_eq!(rt; one_field("a"), Some("a"));
     assert_eq!(rt; two_fields("a b"), Some(("a", "b")));
     assert_eq!(rt; two_fields("a b "), None);
-    assert_eq!(rt; three_fields("a b "), Some(("a", "b", "")));
+    assert_eq!(rt; three_or_four_fields("a b "), Some(("a", "b", "", None)));
+    assert_eq!(rt;
+        three_or_four_fields("a b c "),
+        Some(("a", "b", "c", Some("")))
+    );
+    assert!(rt; three_or_four_fields("a b c d e").is_none());
     assert_eq!(rt; five_fields("a b c d e"), Some(("a", "b", "c", "d", "e")));
 }
 
@@ -50,6 +55,22 @@ fn lines_of_a_source(rt: HostRuntime) -> Result<(), Fail> {
             Err(ReadError::Text(TextFault::Truncated))
         )
     );
+    Ok(())
+}
+
+// The amount of a line of this text.
+fn amount_of(alloc: Global, text: &str) -> Result<Option<u64>, AllocError> {
+    let mut source = source_of(alloc, text)?;
+    let mut lines = Lines::new(alloc)?;
+    Ok(read_amount(alloc, &mut lines, &mut source, "need").ok())
+}
+
+#[test]
+fn amounts_of_64_bits(rt: HostRuntime) -> Result<(), Fail> {
+    let greatest = amount_of(rt.alloc(), "need 18446744073709551615\n")?;
+    assert_eq!(rt; greatest, Some(MOST_AMOUNT));
+    let above = amount_of(rt.alloc(), "need 18446744073709551616\n")?;
+    assert_eq!(rt; above, None);
     Ok(())
 }
 
