@@ -20,3 +20,4 @@ pub mod InfeasibleLaws
 pub mod CertificateLaws
 pub mod CheckSums
 pub mod CheckLaws
+pub mod WriteLaws
