@@ -18,7 +18,7 @@ same_or_other a b = on (id_cmp a b) refl
     on Equal e = inl (id_same a b e)
     on Greater e = inr (λ same. absurd (let itself = id_itself b in let greater : id_cmp b b ≡ Greater = rw same at e in cc))
 
-equal_same : (a b : List ℕ) → is_eq (id_cmp a b) ≡ true → a ≡ b
+pub equal_same : (a b : List ℕ) → is_eq (id_cmp a b) ≡ true → a ≡ b
 equal_same a b h = on (id_cmp a b) refl h
   where
     on : (o : Ordering) → id_cmp a b ≡ o → is_eq o ≡ true → a ≡ b
@@ -26,7 +26,7 @@ equal_same a b h = on (id_cmp a b) refl h
     on Equal e h = id_same a b e
     on Greater e h = absurd (true≢false (sym h))
 
-differ : (a b : List ℕ) → a ≢ b → is_eq (id_cmp a b) ≡ false
+pub differ : (a b : List ℕ) → a ≢ b → is_eq (id_cmp a b) ≡ false
 differ a b ne = on (is_eq (id_cmp a b)) refl
   where
     on : (t : Bool) → is_eq (id_cmp a b) ≡ t → t ≡ false
@@ -34,7 +34,7 @@ differ a b ne = on (is_eq (id_cmp a b)) refl
     on false e = refl
 
 module _ {V : Type 0} where
-  abbrev entry : List ℕ → V → Entry V
+  abbrev pub entry : List ℕ → V → Entry V
   entry id value = record { id = id; value = value }
 
   -- a value stands, and all else stays
@@ -50,7 +50,7 @@ module _ {V : Type 0} where
 
   -- nothing is below the first id
 
-  above-none : (id : List ℕ) (entries : Entries V) → AllAbove entry_id id entries → value_of entries id ≡ None
+  pub above-none : (id : List ℕ) (entries : Entries V) → AllAbove entry_id id entries → value_of entries id ≡ None
   above-none id [] above = refl
   above-none id (e ∷ es) above = let first = id_turned_back id e.id above.0 in rw first (above-none id es above.1)
 

@@ -17,7 +17,7 @@ pub enum ScoresFault {
 }
 
 // Puts a value for a paper and a reviewer.
-fn put_in<V: Drop>(
+pub(crate) fn put_in<V: Drop>(
     alloc: Global,
     papers: &mut ById<ById<V>>,
     paper: &str,

@@ -7,16 +7,10 @@ use crate::numbers::Value;
 use crate::pairs::{PairTable, ScoresFault};
 use crate::spec::Spec;
 use crate::text::Text;
+use crate::union::{PairKey, keys_of, union_of};
 use match_rules::{PaperId, ReviewerId};
 use std::alloc::{AllocError, Global};
 use std::marker::Model;
-
-/// A paper and a reviewer.
-#[derive(Drop)]
-pub struct PairKey {
-    pub paper: PaperId,
-    pub reviewer: ReviewerId,
-}
 
 // Puts a value into the table of a source.
 fn put_in(
@@ -59,7 +53,8 @@ impl Model for Scores {
 }
 
 impl Scores {
-    ghost use Rattle.score_spec.specs.Scores.{no_scores, of_sources, table_of, with_bid, with_value, without_values};
+    ghost use Rattle.score_spec.specs.Keys.{AreKeys, AscendKeys};
+    ghost use Rattle.score_spec.specs.Scores.{has_row, no_scores, of_sources, table_of, with_bid, with_value, without_values};
 
     /// No values and no bids. Takes no memory.
     pub fn new(alloc: Global) -> Self
@@ -144,6 +139,15 @@ impl Scores {
         ensures values { self.new.values ≡ self.old.values }
     {
         self.bids = PairTable::new(self.alloc);
+    }
+
+    /// The pairs that have a value by some source or a bid, by paper and then by reviewer.
+    pub fn pairs(&self) -> Result<Vec<PairKey>, AllocError>
+        ensures ascend { IfOk result (λ keys. AscendKeys keys.items) }
+        ensures rows { IfOk result (λ keys. AreKeys (has_row self.now) keys.items) }
+    {
+        let union = union_of(self.alloc, &self.values, &self.bids)?;
+        keys_of(self.alloc, &union)
     }
 
     /// Equal values and bids.
