@@ -1,6 +1,6 @@
 -- Tables of pairs: what a put does to look-ups, to the order and to the count.
 use Rattle.std.proofs.Common.{◌≡◌, ◌≢◌, ◌⊎◌, inl, inr, ℕ, ◌+◌, ◌≤◌, List, [], ◌∷◌, ◌++◌, append_assoc, length, Option, Some, None, Result, Ok, Err, Bool, true, false, true≢false, is_some, unwrap_or, refl, sym, ap, ap₂, ◌∙◌, arith}
-use Rattle.std.specs.Prelude.{if◌then◌else◌, OnOk, OnErr}
+use Rattle.std.specs.Prelude.{if◌then◌else◌, filter, OnOk, OnErr}
 use Rattle.std.specs.Option.{option_map}
 use Rattle.std.specs.Ordering.{is_eq}
 use Rattle.std.specs.declared.cmp.Ordering.{Ordering}
@@ -101,6 +101,30 @@ module _ {V : Type 0} where
 
   pub without-others : (id : List ℕ) (entries : Entries V) (other : List ℕ) → other ≢ id → value_of (without id entries) other ≡ value_of entries other
   without-others id entries other ne = ap (option_map (λ x. x.value)) (row-others id entries other ne)
+
+  -- the entries whose ids pass
+
+  row-filter : (test : List ℕ → Bool) (entries : Entries V) (id : List ℕ) → row_of entry_id id (filter (λ e. test e.id) entries) ≡ (if test id then row_of entry_id id entries else None)
+  row-filter test [] id = on (test id)
+    where
+      on : (b : Bool) → ◌≡◌ {A = Option (Entry V)} None (if b then None else None)
+      on true = refl
+      on false = refl
+  row-filter test (e ∷ es) id = on (test e.id) (is_eq (id_cmp e.id id)) refl refl (row-filter test es id)
+    where
+      on : (b s : Bool) → test e.id ≡ b → is_eq (id_cmp e.id id) ≡ s → row_of entry_id id (filter (λ e. test e.id) es) ≡ (if test id then row_of entry_id id es else None)
+          → row_of entry_id id (if b then e ∷ filter (λ e. test e.id) es else filter (λ e. test e.id) es) ≡ (if test id then (if s then Some e else row_of entry_id id es) else None)
+      on true true g h rest = let same = equal_same e.id id h in let passes : test id ≡ true = rw (← same) g in rw (h, passes) refl
+      on true false g h rest = rw h rest
+      on false true g h rest = let same = equal_same e.id id h in let fails : test id ≡ false = rw (← same) g in rest ∙ rw fails refl
+      on false false g h rest = rest
+
+  pub value-filter : (test : List ℕ → Bool) (entries : Entries V) (id : List ℕ) (none : V) → unwrap_or (value_of (filter (λ e. test e.id) entries) id) none ≡ (if test id then unwrap_or (value_of entries id) none else none)
+  value-filter test entries id none = rw (row-filter test entries id) (on (test id))
+    where
+      on : (b : Bool) → unwrap_or (option_map (λ x. x.value) (if b then row_of entry_id id entries else None)) none ≡ (if b then unwrap_or (value_of entries id) none else none)
+      on true = refl
+      on false = refl
 
   -- a value that a place of the map was left with
 
