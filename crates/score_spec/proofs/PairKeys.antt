@@ -1,17 +1,17 @@
 -- The pairs of a table: which there are, what is added by a put, and that their keys ascend.
-use Rattle.std.proofs.Common.{◌≡◌, ◌↔◌, ◌⊎◌, inl, inr, ℕ, zero, suc, ◌+◌, ◌<◌, List, [], ◌∷◌, ◌++◌, length, Option, Some, None, Bool, true, false, true≢false, ◌&&◌, ◌||◌, is_some, unwrap_or, refl, sym, ap, ◌∙◌, arith}
+use Rattle.std.proofs.Common.{◌≡◌, ◌⊎◌, inl, inr, ℕ, zero, suc, List, [], ◌∷◌, ◌++◌, Some, None, Bool, true, false, true≢false, ◌&&◌, ◌||◌, is_some, unwrap_or, refl, sym, ap, ◌∙◌, arith}
 use Rattle.std.specs.Prelude.{if◌then◌else◌}
 use Rattle.std.specs.List.{AllByRecursion, Contains}
 use Rattle.std.specs.List.Sorted.{IsStrictlySortedBy}
 use Rattle.std.specs.Option.{option_map}
 use Rattle.std.specs.Ordering.{is_eq}
-use Rattle.std.specs.declared.cmp.Ordering.TheVariants.{Less, Equal}
+use Rattle.std.specs.declared.cmp.Ordering.TheVariants.{Less}
 use Rattle.std.proofs.lemmas.List.Elements.{Contains-append_left, Contains-append_right, Contains-append_cases}
 use Rattle.roster.specs.Table.{id_cmp, AllAbove, Ascend, row_of}
 use Rattle.roster.proofs.Tables.{id_itself}
 use Rattle.score_spec.specs.declared.union.PairKey.{PairKey}
 use Rattle.score_spec.specs.Keys.{pair_key, key_cmp, AscendKeys, AreKeys, has_pair, paper_keys, keys_of}
-use Rattle.score_spec.specs.PairTables.{Entry, Entries, entry_id, value_of, PairsValue, reviewers_of, value_of_pair, put_pair, AreReviewers, HaveReviewers, ArePairs}
+use Rattle.score_spec.specs.PairTables.{Entry, Entries, entry_id, value_of, PairsValue, put_pair, HaveReviewers, ArePairs}
 use Rattle.score_spec.proofs.PairTables.{entry, equal_same, above-none, pair-put, pair-others}
 
 same_is : (a b : List ℕ) → a ≡ b → is_eq (id_cmp a b) ≡ true
@@ -72,6 +72,10 @@ module _ {V : Type 0} where
           plain true = refl
           plain false = refl
       on false h = refl
+
+  -- the rest of a table
+  pub pairs-rest : (e : Entry (Entries V)) (table : PairsValue V) → ArePairs (e ∷ table) → ArePairs table
+  pairs-rest e table pairs = record { ids = pairs.ids.1; papers = pairs.papers.1; reviewers = pairs.reviewers.1 }
 
   -- what a put adds
   pub has-put : (paper reviewer : List ℕ) (value : V) (table : PairsValue V) (p r : List ℕ)

@@ -13,9 +13,9 @@ use Rattle.std.specs.declared.cmp.Ordering.{Ordering}
 use Rattle.std.specs.declared.cmp.Ordering.TheVariants.{Less, Equal, Greater}
 use Rattle.std.specs.declared.string.String.{String}
 use Rattle.std.proofs.lemmas.Cmp.{nat_list_cmp_total}
-use Rattle.roster.specs.Table.{id_cmp, by_order, AllAbove, Ascend, row_of, put_row}
+use Rattle.roster.specs.Table.{id_cmp, AllAbove, Ascend, row_of, put_row}
 use Rattle.roster.proofs.Tables.{id_same, id_trans, id_turned, id_turned_back}
-use Rattle.score_spec.specs.PairTables.{Entry, Entries, entry_id, value_of, put_value, without}
+use Rattle.score_spec.specs.PairTables.{Entry, entry_id, value_of, put_value, without}
 use Rattle.score_spec.specs.TextMaps.{entries_of}
 
 -- how a text compares to keys

@@ -1,14 +1,15 @@
-ghost use Rattle.std.specs.Prelude.{◌≡◌, ◌&&◌, ◌||◌, ◌++◌, [], ℤ, ℕ, List, is_some, IfOk, OnOk};
+ghost use Rattle.std.specs.Prelude.{◌≡◌, ◌&&◌, ◌||◌, ◌++◌, [], ℕ, List, true, is_some, IfOk, OnOk};
 ghost use Rattle.std.specs.List.{list_any};
 ghost use Rattle.std.specs.Ordering.{is_eq};
+ghost use Rattle.match_rules.specs.Id.{is_id};
 ghost use Rattle.roster.specs.Table.{id_cmp};
-ghost use Rattle.score_spec.specs.PairTables.{ArePairs, value_of};
+ghost use Rattle.score_spec.specs.PairTables.{AreIds, ArePairs, value_of};
 
 use crate::by_id::ById;
 use crate::numbers::Value;
 use crate::pairs::{PairTable, put_in};
 use crate::text::Text;
-use match_rules::{PaperId, ReviewerId};
+use match_rules::{IdFault, PaperId, ReviewerId};
 use std::alloc::{AllocError, Global};
 
 /// A paper and a reviewer.
@@ -27,7 +28,9 @@ fn add_reviewers<V>(
     paper: &str,
     reviewers: &ById<V>,
 ) -> Result<(), AllocError>
-    requires { ArePairs union.old }
+    requires pairs { ArePairs union.old }
+    requires paper { is_id paper.now ≡ true }
+    requires reviewers { AreIds reviewers.now }
     ensures pairs { OnOk result (ArePairs union.new) }
     ensures has { OnOk result ((p r : List ℕ) → has_pair union.new p r ≡ (has_pair union.old p r || (is_eq (id_cmp paper.now p) && is_some (value_of reviewers.now r)))) }
 {
@@ -71,20 +74,24 @@ pub(crate) fn union_of(
 }
 
 fn paper_of(alloc: Global, id: &str) -> Result<PaperId, AllocError>
+    requires { is_id id.now ≡ true }
     ensures { IfOk result (λ paper. paper ≡ id.now) }
 {
     match PaperId::read(alloc, id) {
         Ok(paper) => Ok(paper),
-        Err(_) => Err(AllocError),
+        Err(IdFault::Memory) => Err(AllocError),
+        Err(IdFault::BadId) => unreachable!(),
     }
 }
 
 fn reviewer_of(alloc: Global, id: &str) -> Result<ReviewerId, AllocError>
+    requires { is_id id.now ≡ true }
     ensures { IfOk result (λ reviewer. reviewer ≡ id.now) }
 {
     match ReviewerId::read(alloc, id) {
         Ok(reviewer) => Ok(reviewer),
-        Err(_) => Err(AllocError),
+        Err(IdFault::Memory) => Err(AllocError),
+        Err(IdFault::BadId) => unreachable!(),
     }
 }
 
@@ -95,6 +102,8 @@ fn push_keys(
     paper: &str,
     reviewers: &ById<()>,
 ) -> Result<(), AllocError>
+    requires paper { is_id paper.now ≡ true }
+    requires reviewers { AreIds reviewers.now }
     ensures { OnOk result (keys.new.items ≡ keys.old.items ++ paper_keys paper.now reviewers.now) }
 {
     for (reviewer, _) in reviewers.iter() {
@@ -109,6 +118,7 @@ fn push_keys(
 
 /// The pairs of a table, in their order.
 pub(crate) fn keys_of(alloc: Global, union: &ById<ById<()>>) -> Result<Vec<PairKey>, AllocError>
+    requires { ArePairs union.now }
     ensures { IfOk result (λ keys. keys.items ≡ keys_of union.now) }
 {
     let mut keys = Vec::new(alloc);

@@ -1,6 +1,5 @@
 use Rattle.score_spec.proofs.PairKeys.{ascend-keys, are-keys}
 use Rattle.std.proofs.lemmas.Result.{IfOk-weaker}
-use Rattle.score_spec.specs.Scores.{has_row}
 use Rattle.score_spec.proofs.scores.Scores.pairs.Goals as goal
 
 pub returns-clause-ascend : goal.returns-clause-ascend
