@@ -6,3 +6,4 @@ pub mod TextMaps
 pub mod PairTables
 pub mod SourceTables
 pub mod Products
+pub mod PairKeys

@@ -1,13 +1,14 @@
 -- Tables of pairs: what a put does to look-ups, to the order and to the count.
 use Rattle.std.proofs.Common.{◌≡◌, ◌≢◌, ◌⊎◌, inl, inr, ℕ, ◌+◌, ◌≤◌, List, [], ◌∷◌, ◌++◌, append_assoc, length, Option, Some, None, Result, Ok, Err, Bool, true, false, true≢false, is_some, unwrap_or, refl, sym, ap, ap₂, ◌∙◌, arith}
-use Rattle.std.specs.Prelude.{if◌then◌else◌, OnOk, OnErr}
+use Rattle.std.specs.Prelude.{if◌then◌else◌, filter, OnOk, OnErr}
 use Rattle.std.specs.Option.{option_map}
 use Rattle.std.specs.Ordering.{is_eq}
 use Rattle.std.specs.declared.cmp.Ordering.{Ordering}
 use Rattle.std.specs.declared.cmp.Ordering.TheVariants.{Less, Equal, Greater}
-use Rattle.roster.specs.Table.{id_cmp, by_order, AllAbove, AllBelow, Ascend, row_of, put_row}
+use Rattle.match_rules.specs.Id.{is_id}
+use Rattle.roster.specs.Table.{id_cmp, by_order, AllAbove, AllBelow, Ascend, row_of}
 use Rattle.roster.proofs.Tables.{id_same, id_trans, id_turned, id_turned_back, id_itself, ascend-put, row_of-put, row_of-others}
-use Rattle.score_spec.specs.PairTables.{Entry, Entries, entry_id, value_of, put_value, without, PairsValue, reviewers_of, value_of_pair, put_pair, pair_count, AreReviewers, HaveReviewers, ArePairs, IsPairTable}
+use Rattle.score_spec.specs.PairTables.{Entry, Entries, entry_id, value_of, put_value, without, PairsValue, reviewers_of, value_of_pair, put_pair, pair_count, AreIds, AreReviewers, HaveReviewers, ArePairs, IsPairTable}
 
 -- two ids are the same or not
 pub same_or_other : (a b : List ℕ) → (a ≡ b) ⊎ (a ≢ b)
@@ -18,7 +19,7 @@ same_or_other a b = on (id_cmp a b) refl
     on Equal e = inl (id_same a b e)
     on Greater e = inr (λ same. absurd (let itself = id_itself b in let greater : id_cmp b b ≡ Greater = rw same at e in cc))
 
-equal_same : (a b : List ℕ) → is_eq (id_cmp a b) ≡ true → a ≡ b
+pub equal_same : (a b : List ℕ) → is_eq (id_cmp a b) ≡ true → a ≡ b
 equal_same a b h = on (id_cmp a b) refl h
   where
     on : (o : Ordering) → id_cmp a b ≡ o → is_eq o ≡ true → a ≡ b
@@ -26,7 +27,7 @@ equal_same a b h = on (id_cmp a b) refl h
     on Equal e h = id_same a b e
     on Greater e h = absurd (true≢false (sym h))
 
-differ : (a b : List ℕ) → a ≢ b → is_eq (id_cmp a b) ≡ false
+pub differ : (a b : List ℕ) → a ≢ b → is_eq (id_cmp a b) ≡ false
 differ a b ne = on (is_eq (id_cmp a b)) refl
   where
     on : (t : Bool) → is_eq (id_cmp a b) ≡ t → t ≡ false
@@ -34,7 +35,7 @@ differ a b ne = on (is_eq (id_cmp a b)) refl
     on false e = refl
 
 module _ {V : Type 0} where
-  abbrev entry : List ℕ → V → Entry V
+  abbrev pub entry : List ℕ → V → Entry V
   entry id value = record { id = id; value = value }
 
   -- a value stands, and all else stays
@@ -48,9 +49,18 @@ module _ {V : Type 0} where
   pub ascend-value : (id : List ℕ) (value : V) (entries : Entries V) → Ascend entry_id entries → Ascend entry_id (put_value id value entries)
   ascend-value id value entries up = ascend-put entry_id (entry id value) entries up
 
+  pub ids-put : (id : List ℕ) (value : V) (entries : Entries V) → is_id id ≡ true → AreIds entries → AreIds (put_value id value entries)
+  ids-put id value [] good ids = (good, tt)
+  ids-put id value (e ∷ es) good ids = on (id_cmp e.id id) (ids-put id value es good ids.1)
+    where
+      on : (o : Ordering) → AreIds (put_value id value es) → AreIds (by_order o (e ∷ put_value id value es) (entry id value ∷ es) (entry id value ∷ e ∷ es))
+      on Less rest = (ids.0, rest)
+      on Equal rest = (good, ids.1)
+      on Greater rest = (good, ids)
+
   -- nothing is below the first id
 
-  above-none : (id : List ℕ) (entries : Entries V) → AllAbove entry_id id entries → value_of entries id ≡ None
+  pub above-none : (id : List ℕ) (entries : Entries V) → AllAbove entry_id id entries → value_of entries id ≡ None
   above-none id [] above = refl
   above-none id (e ∷ es) above = let first = id_turned_back id e.id above.0 in rw first (above-none id es above.1)
 
@@ -101,6 +111,30 @@ module _ {V : Type 0} where
 
   pub without-others : (id : List ℕ) (entries : Entries V) (other : List ℕ) → other ≢ id → value_of (without id entries) other ≡ value_of entries other
   without-others id entries other ne = ap (option_map (λ x. x.value)) (row-others id entries other ne)
+
+  -- the entries whose ids pass
+
+  row-filter : (test : List ℕ → Bool) (entries : Entries V) (id : List ℕ) → row_of entry_id id (filter (λ e. test e.id) entries) ≡ (if test id then row_of entry_id id entries else None)
+  row-filter test [] id = on (test id)
+    where
+      on : (b : Bool) → ◌≡◌ {A = Option (Entry V)} None (if b then None else None)
+      on true = refl
+      on false = refl
+  row-filter test (e ∷ es) id = on (test e.id) (is_eq (id_cmp e.id id)) refl refl (row-filter test es id)
+    where
+      on : (b s : Bool) → test e.id ≡ b → is_eq (id_cmp e.id id) ≡ s → row_of entry_id id (filter (λ e. test e.id) es) ≡ (if test id then row_of entry_id id es else None)
+          → row_of entry_id id (if b then e ∷ filter (λ e. test e.id) es else filter (λ e. test e.id) es) ≡ (if test id then (if s then Some e else row_of entry_id id es) else None)
+      on true true g h rest = let same = equal_same e.id id h in let passes : test id ≡ true = rw (← same) g in rw (h, passes) refl
+      on true false g h rest = rw h rest
+      on false true g h rest = let same = equal_same e.id id h in let fails : test id ≡ false = rw (← same) g in rest ∙ rw fails refl
+      on false false g h rest = rest
+
+  pub value-filter : (test : List ℕ → Bool) (entries : Entries V) (id : List ℕ) (none : V) → unwrap_or (value_of (filter (λ e. test e.id) entries) id) none ≡ (if test id then unwrap_or (value_of entries id) none else none)
+  value-filter test entries id none = rw (row-filter test entries id) (on (test id))
+    where
+      on : (b : Bool) → unwrap_or (option_map (λ x. x.value) (if b then row_of entry_id id entries else None)) none ≡ (if b then unwrap_or (value_of entries id) none else none)
+      on true = refl
+      on false = refl
 
   -- a value that a place of the map was left with
 
@@ -172,6 +206,14 @@ module _ {V : Type 0} where
       on true rest = all.0.ascend
       on false rest = rest
 
+  ids-found : (paper : List ℕ) (table : PairsValue V) → HaveReviewers table → AreIds (reviewers_of table paper)
+  ids-found paper [] all = tt
+  ids-found paper (e ∷ es) all = on (is_eq (id_cmp e.id paper)) (ids-found paper es all.1)
+    where
+      on : (b : Bool) → AreIds (reviewers_of es paper) → AreIds (unwrap_or (option_map (λ x. x.value) (if b then Some e else row_of entry_id paper es)) [])
+      on true rest = all.0.ids
+      on false rest = rest
+
   some-put : (id : List ℕ) (value : V) (entries : Entries V) → 1 ≤ length (put_value id value entries)
   some-put id value [] = omega arith
   some-put id value (e ∷ es) = on (id_cmp e.id id)
@@ -181,12 +223,19 @@ module _ {V : Type 0} where
       on Equal = omega arith
       on Greater = omega arith
 
-  pub pairs-put : (paper reviewer : List ℕ) (value : V) (table : PairsValue V) → ArePairs table → ArePairs (put_pair paper reviewer value table)
-  pairs-put paper reviewer value table pairs =
+  pub pairs-put : (paper reviewer : List ℕ) (value : V) (table : PairsValue V) → is_id paper ≡ true → is_id reviewer ≡ true → ArePairs table → ArePairs (put_pair paper reviewer value table)
+  pairs-put paper reviewer value table good_paper good_reviewer pairs =
       let old = reviewers_of table paper in
-      let new : AreReviewers (put_value reviewer value (reviewers_of table paper)) =
-      record { ascend = ascend-value reviewer value old (ascend-found paper table pairs.reviewers); some = some-put reviewer value old } in
-      record { papers = ascend-value paper (put_value reviewer value old) table pairs.papers; reviewers = all-put paper (put_value reviewer value old) table new pairs.reviewers }
+      let new : AreReviewers (put_value reviewer value (reviewers_of table paper)) = record {
+        ids = ids-put reviewer value old good_reviewer (ids-found paper table pairs.reviewers);
+        ascend = ascend-value reviewer value old (ascend-found paper table pairs.reviewers);
+        some = some-put reviewer value old;
+      } in
+      record {
+        ids = ids-put paper (put_value reviewer value old) table good_paper pairs.ids;
+        papers = ascend-value paper (put_value reviewer value old) table pairs.papers;
+        reviewers = all-put paper (put_value reviewer value old) table new pairs.reviewers;
+      }
 
   -- the count
 
@@ -207,10 +256,10 @@ module _ {V : Type 0} where
       let old = reviewers_of table paper in
       omega (arith, count-value paper (put_value reviewer value old) table pairs.papers, length-put reviewer value old (ascend-found paper table pairs.reviewers))
 
-  pub table-put : (paper reviewer : List ℕ) (value : V) (table : PairsValue V) (count more : ℕ) → IsPairTable table count → more ≡ (if is_some (value_of_pair table paper reviewer) then 0 else 1)
+  pub table-put : (paper reviewer : List ℕ) (value : V) (table : PairsValue V) (count more : ℕ) → is_id paper ≡ true → is_id reviewer ≡ true → IsPairTable table count → more ≡ (if is_some (value_of_pair table paper reviewer) then 0 else 1)
       → count + more ≤ 250000 → IsPairTable (put_pair paper reviewer value table) (count + more)
-  table-put paper reviewer value table count more whole more_is few = record {
-    pairs = pairs-put paper reviewer value table whole.pairs;
+  table-put paper reviewer value table count more good_paper good_reviewer whole more_is few = record {
+    pairs = pairs-put paper reviewer value table good_paper good_reviewer whole.pairs;
     counted = omega (arith, whole.counted, more_is, count-put paper reviewer value table whole.pairs);
     few = few;
   }

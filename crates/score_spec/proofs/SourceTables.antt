@@ -1,5 +1,5 @@
 -- The values of the sources after a put.
-use Rattle.std.proofs.Common.{◌≡◌, ◌≢◌, ◌⊎◌, inl, inr, ℕ, ℤ, List, [], Option, Some, Result, Ok, Err, unwrap_or, ap, ◌∙◌}
+use Rattle.std.proofs.Common.{◌≡◌, ◌≢◌, ◌⊎◌, inl, inr, ℕ, ℤ, List, [], Some, Result, Ok, Err, unwrap_or, ap, ◌∙◌}
 use Rattle.std.specs.Prelude.{OnOk}
 use Rattle.score_spec.specs.PairTables.{Entries, PairsValue, put_value, put_pair, value_of, value_of_pair}
 use Rattle.score_spec.proofs.PairTables.{same_or_other, value-put, value-others, pair-put, pair-others}

@@ -1,6 +1,6 @@
 -- Maps from texts as lists of entries: what look-ups and writes of the map are in the list.
 use Rattle.std.proofs.Common.{◌≡◌, ℕ, List, [], ◌∷◌, Option, Some, None, Bool, true, false, true≢false, is_some, refl, sym, ap, ◌∙◌, MutBor}
-use Rattle.std.specs.Prelude.{IsSome, OnSome, if◌then◌else◌, string_cmp}
+use Rattle.std.specs.Prelude.{IsSome, OnSome, if◌then◌else◌, filter, string_cmp}
 use Rattle.std.specs.BTreeMap.{insert_entry, is_at}
 use Rattle.std.specs.Cmp.Lexicographic.{slice_cmp}
 use Rattle.std.specs.Global.{Global}
@@ -13,9 +13,9 @@ use Rattle.std.specs.declared.cmp.Ordering.{Ordering}
 use Rattle.std.specs.declared.cmp.Ordering.TheVariants.{Less, Equal, Greater}
 use Rattle.std.specs.declared.string.String.{String}
 use Rattle.std.proofs.lemmas.Cmp.{nat_list_cmp_total}
-use Rattle.roster.specs.Table.{id_cmp, by_order, AllAbove, Ascend, row_of, put_row}
+use Rattle.roster.specs.Table.{id_cmp, AllAbove, Ascend, row_of, put_row}
 use Rattle.roster.proofs.Tables.{id_same, id_trans, id_turned, id_turned_back}
-use Rattle.score_spec.specs.PairTables.{Entry, Entries, entry_id, value_of, put_value, without}
+use Rattle.score_spec.specs.PairTables.{Entry, entry_id, value_of, put_value, without}
 use Rattle.score_spec.specs.TextMaps.{entries_of}
 
 -- how a text compares to keys
@@ -123,3 +123,16 @@ module _ {V : Type 0} where
           → entries_of (if b then es else e ∷ remove_entry (is_at (by_text id)) es) ≡ (if b then entries_of es else old ∷ without id (entries_of es))
       on true rest = refl
       on false rest = ap (λ rows. old ∷ rows) rest
+
+  -- the entries that pass
+  pub entries-filter : (test : List ℕ → Bool) (es : List (String Global × V)) → entries_of (filter (λ e. test (string_bytes e.0)) es) ≡ filter (λ entry. test entry.id) (entries_of es)
+  entries-filter test [] = refl
+  entries-filter test (e ∷ es) = on (test (string_bytes e.0)) (entries-filter test es)
+    where
+      old : Entry V
+      old = new_entry (string_bytes e.0) e.1
+
+      on : (b : Bool) → entries_of (filter (λ e. test (string_bytes e.0)) es) ≡ filter (λ entry. test entry.id) (entries_of es)
+          → entries_of (if b then e ∷ filter (λ e. test (string_bytes e.0)) es else filter (λ e. test (string_bytes e.0)) es) ≡ (if b then old ∷ filter (λ entry. test entry.id) (entries_of es) else filter (λ entry. test entry.id) (entries_of es))
+      on true rest = ap (λ rows. old ∷ rows) rest
+      on false rest = rest

@@ -8,3 +8,4 @@ pub mod Scores
 pub mod Examples
 pub mod TextMaps
 pub mod Lending
+pub mod Keys

@@ -1,7 +1,8 @@
 -- Tables of pairs: for each paper, in ascending order, its reviewers in ascending order, each with a value.
-use Rattle.std.specs.Prelude.{◌≡◌, ℕ, ◌+◌, ◌≤◌, List, [], length, ◌∷◌, Option, unwrap_or, if◌then◌else◌}
+use Rattle.std.specs.Prelude.{true, ◌≡◌, ℕ, ◌+◌, ◌≤◌, List, [], length, ◌∷◌, Option, unwrap_or, if◌then◌else◌}
 use Rattle.std.specs.Option.{option_map}
 use Rattle.std.specs.Ordering.{is_eq}
+use Rattle.match_rules.specs.Id.{is_id}
 use Rattle.roster.specs.Table.{Ascend, id_cmp, row_of, put_row}
 
 -- an id with what stands for it
@@ -49,8 +50,14 @@ abbrev pub pair_count : {V : Type 0} → PairsValue V → ℕ
 pair_count [] = 0
 pair_count (paper ∷ table) = length paper.value + pair_count table
 
+-- each is spelled as an id
+abbrev pub AreIds : {V : Type 0} → Entries V → Type 0
+AreIds [] = Unit {0}
+AreIds (entry ∷ entries) = (is_id entry.id ≡ true) × AreIds entries
+
 -- the reviewers of a paper ascend, and there is one
 pub record AreReviewers {V : Type 0} (reviewers : Entries V) : Type 0 where
+  pub ids : AreIds reviewers
   pub ascend : Ascend entry_id reviewers
   pub some : 1 ≤ length reviewers
 
@@ -61,6 +68,7 @@ HaveReviewers (paper ∷ table) = AreReviewers paper.value × HaveReviewers tabl
 
 -- papers ascend, and the reviewers of each
 pub record ArePairs {V : Type 0} (table : PairsValue V) : Type 0 where
+  pub ids : AreIds table
   pub papers : Ascend entry_id table
   pub reviewers : HaveReviewers table
 

@@ -12,13 +12,15 @@ mod spec;
 #[cfg(test)]
 mod tests;
 mod text;
+mod union;
 mod weighing;
 
 pub use by_id::{ById, TableValue};
 pub use examples::{worked_scores, worked_tables};
 pub use numbers::{NumberFault, Value, read_value};
 pub use pairs::{PairTable, ScoresFault};
-pub use scores::{PairKey, Scores};
+pub use scores::Scores;
 pub use spec::{BidWord, Kind, SourceSpec, Sources, Spec, Words};
 pub use text::Text;
+pub use union::PairKey;
 pub use weighing::score;

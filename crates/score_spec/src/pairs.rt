@@ -17,7 +17,7 @@ pub enum ScoresFault {
 }
 
 // Puts a value for a paper and a reviewer.
-fn put_in<V: Drop>(
+pub(crate) fn put_in<V: Drop>(
     alloc: Global,
     papers: &mut ById<ById<V>>,
     paper: &str,
@@ -136,13 +136,22 @@ impl<V> PairTable<V> {
     }
 }
 
-impl<V: TableValue> TableValue for PairTable<V> {
-    fn copy(&self, alloc: Global) -> Result<Self, AllocError> {
+impl<V: TableValue> PairTable<V> {
+    /// An equal table.
+    pub fn copy(&self, alloc: Global) -> Result<Self, AllocError>
+        ensures { IfOk result (λ copy. copy ≡ self.now) }
+    {
         let papers = self.papers.copy(alloc)?;
         Ok(PairTable {
             alloc,
             papers,
             count: self.count,
         })
+    }
+}
+
+impl<V: TableValue> TableValue for PairTable<V> {
+    fn copy(&self, alloc: Global) -> Result<Self, AllocError> {
+        self.copy(alloc)
     }
 }

@@ -1,22 +1,19 @@
-ghost use Rattle.std.specs.Prelude.{◌≡◌, ◌↔◌, ◌≢◌, ◌⊎◌, [], ℕ, List, None, Some, Err, IfOk, OnOk, OnErr};
+ghost use Rattle.std.specs.Prelude.{◌≡◌, ◌&&◌, ◌↔◌, ◌≢◌, ◌⊎◌, [], ℕ, List, None, Some, Err, IfOk, OnOk, OnErr, if◌then◌else◌, filter, string_bytes};
 ghost use Rattle.std.specs.Option.{option_copied, unwrap_or};
+ghost use Rattle.std.specs.Ordering.{is_eq};
+ghost use Rattle.roster.specs.Table.{id_cmp};
+ghost use Rattle.score_spec.specs.Scores.{has_values, is_values};
 ghost use Rattle.score_spec.specs.PairTables.{pair_count, put_pair, put_value, value_of, value_of_pair};
 
 use crate::by_id::{ById, TableValue};
 use crate::numbers::Value;
 use crate::pairs::{PairTable, ScoresFault};
-use crate::spec::Spec;
+use crate::spec::{Kind, SourceSpec, Spec};
 use crate::text::Text;
+use crate::union::{PairKey, keys_of, union_of};
 use match_rules::{PaperId, ReviewerId};
 use std::alloc::{AllocError, Global};
 use std::marker::Model;
-
-/// A paper and a reviewer.
-#[derive(Drop)]
-pub struct PairKey {
-    pub paper: PaperId,
-    pub reviewer: ReviewerId,
-}
 
 // Puts a value into the table of a source.
 fn put_in(
@@ -42,6 +39,28 @@ fn put_in(
     }
 }
 
+// Whether a source of values has the name.
+fn has_values(sources: &[SourceSpec], name: &str) -> bool
+    ensures { result ≡ has_values sources.now name.now }
+{
+    sources.iter().any(
+        |source| -> bool
+            ensures { result ≡ (is_values source.now.kind && is_eq (id_cmp source.now.name name.entry.now)) }
+        { source.kind() == Kind::Values && source.name().cmp(name).is_eq() },
+    )
+}
+
+fn keep_tables(tables: &mut ById<PairTable<Value>>, sources: &[SourceSpec])
+    ensures { tables.new ≡ filter (λ entry. has_values sources.now entry.id) tables.old }
+{
+    tables.map.retain(
+        |id, table| -> bool
+            ensures keeps { result ≡ has_values sources.entry.now (string_bytes id.now) }
+            ensures same { table.new ≡ table.old }
+        { has_values(sources, id.as_str()) },
+    );
+}
+
 /// The values and bids of a conference: a table of values for each source that has one, and the bids' words.
 #[derive(Drop)]
 pub struct Scores {
@@ -59,7 +78,8 @@ impl Model for Scores {
 }
 
 impl Scores {
-    ghost use Rattle.score_spec.specs.Scores.{no_scores, of_sources, table_of, with_bid, with_value, without_values};
+    ghost use Rattle.score_spec.specs.Keys.{AreKeys, AscendKeys};
+    ghost use Rattle.score_spec.specs.Scores.{has_row, no_scores, of_sources, table_of, with_bid, with_value, without_values};
 
     /// No values and no bids. Takes no memory.
     pub fn new(alloc: Global) -> Self
@@ -144,6 +164,24 @@ impl Scores {
         ensures values { self.new.values ≡ self.old.values }
     {
         self.bids = PairTable::new(self.alloc);
+    }
+
+    /// Drops the tables of values but those of the spec's sources of values. Takes no memory.
+    pub fn keep_sources(&mut self, spec: &Spec)
+        ensures kept { self.new ≡ of_sources spec.now.sources self.old }
+        ensures tables { (name : List ℕ) → table_of self.new name ≡ (if has_values spec.now.sources name then table_of self.old name else []) }
+        ensures bids { self.new.bids ≡ self.old.bids }
+    {
+        keep_tables(&mut self.values, spec.sources.as_slice());
+    }
+
+    /// The pairs that have a value by some source or a bid, by paper and then by reviewer.
+    pub fn pairs(&self) -> Result<Vec<PairKey>, AllocError>
+        ensures ascend { IfOk result (λ keys. AscendKeys keys.items) }
+        ensures rows { IfOk result (λ keys. AreKeys (has_row self.now) keys.items) }
+    {
+        let union = union_of(self.alloc, &self.values, &self.bids)?;
+        keys_of(self.alloc, &union)
     }
 
     /// Equal values and bids.

@@ -1,4 +1,4 @@
-use Rattle.std.proofs.Common.{◌≡◌, ◌<◌, ◌≤◌, ◌+◌, List, length, drop, get_or, ℤ, ◌+ℤ◌, ◌*ℤ◌, FitsSigned, w64, to_z, of_z, rules, sym, ap, ◌∙◌}
+use Rattle.std.proofs.Common.{◌≡◌, ◌<◌, ◌≤◌, ◌+◌, List, length, drop, get_or, ◌+ℤ◌, ◌*ℤ◌, FitsSigned, w64, to_z, of_z, rules, sym, ap, ◌∙◌}
 use Rattle.std.proofs.lemmas.Int.{to_z-of_z}
 use Rattle.std.proofs.lemmas.List.{at_drop_more, at_drop_all}
 use Rattle.score_spec.specs.Scores.{score_of, source_value, weighted_sum}
