@@ -3,7 +3,7 @@ ghost use Rattle.roster.specs.Table.{Ascend};
 ghost use Rattle.score_spec.specs.declared.spec.BidWord.{BidWord};
 ghost use Rattle.toml.specs.View.{table_view};
 ghost use Rattle.bid_import.specs.Documents.{ReadsKey};
-ghost use Rattle.bid_import.specs.Settings.{settings_of, settings_of_file, spec_of, default_settings, ImportsSettings};
+ghost use Rattle.bid_import.specs.Settings.{settings_of, settings_of_file, spec_setting, default_settings, ImportsSettings};
 
 use crate::document::{self, KeyFault, TableFault, fixed, read_table};
 use crate::fault::{Code, ImportFault, Key};
@@ -134,7 +134,7 @@ fn default_load() -> Load
 }
 
 fn spec(alloc: Global, table: &Table) -> Result<Spec, KeyFault>
-    ensures same { ReadsKey result (spec_of (table_view table.now)) }
+    ensures same { ReadsKey result (spec_setting (table_view table.now)) }
     ensures few { IfOk result (λ spec. length spec.sources ≤ 8) }
     ensures order { IfOk result (λ spec. Ascend (λ (w : BidWord). w.word) spec.words) }
 {

@@ -7,7 +7,7 @@ ghost use Rattle.toml.specs.Data.{get_member, as_table};
 ghost use Rattle.toml.specs.View.{view, table_view};
 ghost use Rattle.score_spec.specs.Sources.{SourceValue, IsWeight};
 ghost use Rattle.bid_import.specs.Documents.{ReadsKey, ReadsItems};
-ghost use Rattle.bid_import.specs.Settings.{is_name_byte, is_source_name, name_from, kind_word, kind_from, weight_in, weight_from, value_from, optional, source_from, are_distinct, sources_in, sources_from, sources_of, affinity, each};
+ghost use Rattle.bid_import.specs.Settings.{is_name_byte, is_source_name, name_from, kind_word, kind_from, weight_in, weight_from, text_value, optional, source_from, are_distinct, sources_in, sources_from, sources_setting, affinity, each};
 
 use crate::document::{KeyFault, at, fixed, value};
 use crate::fault::Key;
@@ -122,7 +122,7 @@ fn weight(table: &Table) -> Option<i32>
 }
 
 fn default(table: &Table) -> Option<Value>
-    ensures { result ≡ optional (pos 0) value_from (get_member (codes "default") (table_view table.now)) }
+    ensures { result ≡ optional (pos 0) text_value (get_member (codes "default") (table_view table.now)) }
 {
     match at(table, "default") {
         Some(node) => value(node),
@@ -260,7 +260,7 @@ pub(crate) fn default_sources(alloc: Global) -> Result<Sources, AllocError>
 
 /// The sources.
 pub(crate) fn sources(alloc: Global, table: &Table) -> Result<Sources, KeyFault>
-    ensures same { ReadsKey result (sources_of (table_view table.now)) }
+    ensures same { ReadsKey result (sources_setting (table_view table.now)) }
     ensures few { IfOk result (λ sources. length sources ≤ 8) }
 {
     match at(table, "source") {

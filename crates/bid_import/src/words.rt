@@ -5,7 +5,7 @@ ghost use Rattle.toml.specs.View.{view, table_view};
 ghost use Rattle.roster.specs.Table.{Ascend};
 ghost use Rattle.score_spec.specs.declared.spec.BidWord.{BidWord};
 ghost use Rattle.bid_import.specs.Documents.{ReadsKey, ReadsItems};
-ghost use Rattle.bid_import.specs.Settings.{bid_word, default_words, word_from, words_from, words_of, entries, each};
+ghost use Rattle.bid_import.specs.Settings.{bid_word, default_words, word_from, words_from, words_setting, entries, each};
 
 use crate::document::{KeyFault, at, fixed, value};
 use crate::fault::Key;
@@ -93,7 +93,7 @@ pub(crate) fn default_words(alloc: Global) -> Result<Words, AllocError>
 
 /// The words of bids, in the order of their bytes.
 pub(crate) fn words(alloc: Global, table: &Table) -> Result<Words, KeyFault>
-    ensures same { ReadsKey result (words_of (table_view table.now)) }
+    ensures same { ReadsKey result (words_setting (table_view table.now)) }
     ensures order { IfOk result (λ words. Ascend (λ (w : BidWord). w.word) words) }
 {
     match at(table, "bids") {
