@@ -12,7 +12,7 @@ use Rattle.toml.specs.View.{view, members_view}
 use Rattle.toml.proofs.Views.{Entry}
 use Rattle.roster.specs.Table.{Ascend, AllAbove}
 use Rattle.score_spec.specs.declared.spec.BidWord.{BidWord}
-use Rattle.bid_import.specs.Settings.{value_from, entries, each, word_from, words_from}
+use Rattle.bid_import.specs.Settings.{text_value, entries, each, word_from, words_from}
 use Rattle.bid_import.proofs.Documents.{each-parts, entries-length}
 
 abbrev pub word : BidWord → List ℕ
@@ -22,7 +22,7 @@ word w = w.word
 pub word-key : (key : List ℕ) (d : Data) (w : BidWord) → word_from (key, d) ≡ Some w → key ≡ w.word
 word-key key d w h =
     elim (cases_Bool (nat_le 1 (length key) && nat_le (length key) 64)) [
-      | inl e ↦ good (value_from d) (rw e at h)
+      | inl e ↦ good (text_value d) (rw e at h)
       | inr e ↦ bad (rw e at h)
     ]
   where

@@ -31,6 +31,17 @@ pub record SettingsValue : Type 0 where
   pub load : LoadValue
   pub spec : Spec
 
+-- no name stands twice
+abbrev pub are_distinct : List (List ℕ) → Bool
+are_distinct [] = true
+are_distinct (name ∷ names) = not (list_any (λ other. bytes_eq other name) names) && are_distinct names
+
+abbrev pub HasDistinctNames : List SourceValue → Type 0
+HasDistinctNames sources = are_distinct (map (λ (s : SourceValue). s.name) sources) ≡ true
+
+abbrev pub AscendInBytes : List BidWord → Type 0
+AscendInBytes words = Ascend (λ (w : BidWord). w.word) words
+
 -- the bounds of settings
 pub record IsSettings (s : SettingsValue) : Type 0 where
   pub some_limit : 1 ≤ s.limit
@@ -39,7 +50,8 @@ pub record IsSettings (s : SettingsValue) : Type 0 where
   pub cap : s.cap ≤ℤ pos 10000
   pub demand : s.demand ≤ 100
   pub sources : length s.spec.sources ≤ 8
-  pub words : Ascend (λ (w : BidWord). w.word) s.spec.words
+  pub names : HasDistinctNames s.spec.sources
+  pub words : AscendInBytes s.spec.words
 
 -- what a document says of them
 
@@ -70,35 +82,35 @@ abbrev pub number_from : ℕ → ℕ → Data → Option ℕ
 number_from low high d = option_and_then (number_in low high) (as_integer d)
 
 -- a value text's value in ten-thousandths, where that is from -10 to 10
-abbrev pub value_from : Data → Option ℤ
-value_from d = option_and_then (λ text. result_ok (read_as text)) (as_str d)
+abbrev pub text_value : Data → Option ℤ
+text_value d = option_and_then (λ text. result_ok (read_as text)) (as_str d)
 
 -- what stands at the key reads so, or nothing stands there and the default holds; else the key is at fault
 abbrev pub setting : {A : Type 0} → Key → A → (Data → Option A) → Option Data → Result A Key
 setting at_fault default read None = Ok default
 setting at_fault default read (Some d) = ok_or (read d) at_fault
 
-abbrev pub limit_of : Members → Result ℕ Key
-limit_of m = setting key.Limit 1500 (number_from 1 1500) (get_member (codes "limit") m)
+abbrev pub limit_setting : Members → Result ℕ Key
+limit_setting m = setting key.Limit 1500 (number_from 1 1500) (get_member (codes "limit") m)
 
 abbrev pub cap_in : ℤ → Option ℤ
 cap_in value = where_it (int_le (pos 0) value && int_le value (pos 10000)) value
 
-abbrev pub cap_of : Members → Result ℤ Key
-cap_of m = setting key.Cap (pos 10000) (λ d. option_and_then cap_in (value_from d)) (get_member (codes "cap") m)
+abbrev pub cap_setting : Members → Result ℤ Key
+cap_setting m = setting key.Cap (pos 10000) (λ d. option_and_then cap_in (text_value d)) (get_member (codes "cap") m)
 
 -- whether all pairs are candidates
 abbrev pub pairs_word : List ℕ → Option Bool
 pairs_word text = if bytes_eq text (codes "all") then Some true else where_it (bytes_eq text (codes "listed")) false
 
-abbrev pub pairs_of : Members → Result Bool Key
-pairs_of m = setting key.Pairs false (λ d. option_and_then pairs_word (as_str d)) (get_member (codes "pairs") m)
+abbrev pub pairs_setting : Members → Result Bool Key
+pairs_setting m = setting key.Pairs false (λ d. option_and_then pairs_word (as_str d)) (get_member (codes "pairs") m)
 
-abbrev pub demand_of : Members → Result ℕ Key
-demand_of m = setting key.Demand 3 (number_from 0 100) (get_member (codes "demand") m)
+abbrev pub demand_setting : Members → Result ℕ Key
+demand_setting m = setting key.Demand 3 (number_from 0 100) (get_member (codes "demand") m)
 
-abbrev pub least_of : Members → Result ℕ Key
-least_of m = setting key.Least 0 (number_from 0 1500) (get_member (codes "least") m)
+abbrev pub least_setting : Members → Result ℕ Key
+least_setting m = setting key.Least 0 (number_from 0 1500) (get_member (codes "least") m)
 
 -- the load from this least on: the greatest, as given or 6, makes a load with it
 abbrev pub load_with : ℕ → Option Data → Result LoadValue Key
@@ -139,14 +151,10 @@ optional default read (Some d) = read d
 abbrev pub source_from : Members → Option SourceValue
 source_from m =
     option_and_then (λ name. option_and_then (λ kind. option_and_then (λ weight. option_map (λ default. record { name = name; kind = kind; weight = weight; default = default })
-    (optional (pos 0) value_from (get_member (codes "default") m)))
+    (optional (pos 0) text_value (get_member (codes "default") m)))
     (optional (pos 100) weight_from (get_member (codes "weight") m)))
     (option_and_then kind_from (get_member (codes "kind") m)))
     (option_and_then name_from (get_member (codes "name") m))
-
-abbrev pub are_distinct : List (List ℕ) → Bool
-are_distinct [] = true
-are_distinct (name ∷ names) = not (list_any (λ other. bytes_eq other name) names) && are_distinct names
 
 -- at most eight sources with distinct names
 abbrev pub may_be_sources : List SourceValue → Bool
@@ -162,14 +170,14 @@ sources_from d = option_and_then (λ items. sources_in (listed items)) (as_array
 abbrev pub affinity : SourceValue
 affinity = record { name = codes "affinity"; kind = Values; weight = pos 100; default = pos 0 }
 
-abbrev pub sources_of : Members → Result (List SourceValue) Key
-sources_of m = setting key.Source (affinity ∷ []) sources_from (get_member (codes "source") m)
+abbrev pub sources_setting : Members → Result (List SourceValue) Key
+sources_setting m = setting key.Source (affinity ∷ []) sources_from (get_member (codes "source") m)
 
 -- a word of 1 to 64 bytes with its value
 abbrev pub word_from : List ℕ × Data → Option BidWord
 word_from entry =
     if nat_le 1 (length entry.0) && nat_le (length entry.0) 64
-    then option_map (λ value. record { word = entry.0; value = value }) (value_from entry.1)
+    then option_map (λ value. record { word = entry.0; value = value }) (text_value entry.1)
     else None
 
 -- at most 32 words, in the order of the table's keys, which is that of their bytes
@@ -188,8 +196,8 @@ default_words =
     ∷ bid_word (codes "Very Low") (neg_ℤ (pos 10000))
     ∷ []
 
-abbrev pub words_of : Members → Result (List BidWord) Key
-words_of m = setting key.Bids default_words words_from (get_member (codes "bids") m)
+abbrev pub words_setting : Members → Result (List BidWord) Key
+words_setting m = setting key.Bids default_words words_from (get_member (codes "bids") m)
 
 -- the keys that settings may have, and those that a source may have
 abbrev pub setting_keys : List (List ℕ)
@@ -215,17 +223,17 @@ then_set (Ok x) more = more x
 then_set (Err at_fault) more = Err at_fault
 
 -- the numbers, and then the sources and the words
-abbrev pub load_of : Members → Result LoadValue Key
-load_of m = then_set (least_of m) (load_above m)
+abbrev pub load_setting : Members → Result LoadValue Key
+load_setting m = then_set (least_setting m) (load_above m)
 
-abbrev pub spec_of : Members → Result Spec Key
-spec_of m = then_set (sources_of m) (λ sources. then_set (words_of m) (λ words. Ok (record { sources = sources; words = words })))
+abbrev pub spec_setting : Members → Result Spec Key
+spec_setting m = then_set (sources_setting m) (λ sources. then_set (words_setting m) (λ words. Ok (record { sources = sources; words = words })))
 
 -- the settings of a document, or its first key at fault
 abbrev pub settings_of : Members → Result SettingsValue Key
 settings_of m =
     if knows_all m
-    then then_set (limit_of m) (λ limit. then_set (cap_of m) (λ cap. then_set (pairs_of m) (λ all_pairs. then_set (demand_of m) (λ demand. then_set (load_of m) (λ load. then_set (spec_of m) (λ spec.
+    then then_set (limit_setting m) (λ limit. then_set (cap_setting m) (λ cap. then_set (pairs_setting m) (λ all_pairs. then_set (demand_setting m) (λ demand. then_set (load_setting m) (λ load. then_set (spec_setting m) (λ spec.
     Ok (record { limit = limit; cap = cap; all_pairs = all_pairs; demand = demand; load = load; spec = spec })))))))
     else Err key.Unknown
 

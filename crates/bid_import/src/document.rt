@@ -5,12 +5,12 @@ ghost use Rattle.roster.specs.Loads.{load_from};
 ghost use Rattle.toml.specs.Data.{get_member, as_str};
 ghost use Rattle.toml.specs.View.{view, table_view};
 ghost use Rattle.bid_import.specs.Documents.{ReadsTable};
-ghost use Rattle.bid_import.specs.Settings.{number_in, number_from, value_from, limit_of, cap_in, cap_of, pairs_word, pairs_of, demand_of, least_of, load_with, load_above, load_of};
+ghost use Rattle.bid_import.specs.Settings.{number_in, number_from, text_value, limit_setting, cap_in, cap_setting, pairs_word, pairs_setting, demand_setting, least_setting, load_with, load_above, load_setting};
 
 use crate::fault::Key;
 use roster::Load;
 use score_spec::{Value, read_value};
-use std::alloc::Global;
+use std::alloc::{AllocError, AllocFailed, Global};
 use std::str;
 use toml::Table;
 
@@ -26,6 +26,39 @@ pub(crate) enum TableFault {
 pub(crate) enum KeyFault {
     Memory,
     At(Key),
+}
+
+impl From<Key> for KeyFault {
+    ghost use Rattle.std.specs.Prelude.{◌≡◌};
+    ghost use Rattle.bid_import.specs.declared.document.KeyFault.TheVariants.{At};
+
+    ghost from_gives = { λ key fault. fault ≡ At key };
+
+    fn from(key: Key) -> KeyFault {
+        KeyFault::At(key)
+    }
+}
+
+impl From<AllocError> for KeyFault {
+    ghost use Rattle.std.specs.Prelude.{◌≡◌};
+    ghost use Rattle.bid_import.specs.declared.document.KeyFault.TheVariants.{Memory};
+
+    ghost from_gives = { λ _ fault. fault ≡ Memory };
+
+    fn from(_error: AllocError) -> KeyFault {
+        KeyFault::Memory
+    }
+}
+
+impl<T: Drop> From<AllocFailed<T>> for KeyFault {
+    ghost use Rattle.std.specs.Prelude.{◌≡◌};
+    ghost use Rattle.bid_import.specs.declared.document.KeyFault.TheVariants.{Memory};
+
+    ghost from_gives = { λ _ fault. fault ≡ Memory };
+
+    fn from(_error: AllocFailed<T>) -> KeyFault {
+        KeyFault::Memory
+    }
 }
 
 /// The table that a document in UTF-8 writes.
@@ -78,40 +111,26 @@ fn number(low: u32, high: u32, node: &toml::Value) -> Option<u32>
     ensures low { IfSome result (λ n. low ≤ n) }
     ensures high { IfSome result (λ n. n ≤ high) }
 {
-    match node.as_integer() {
-        Some(number) => number_in(low, high, number),
-        None => None,
-    }
+    number_in(low, high, node.as_integer()?)
 }
 
 /// The value of a string that is a value text.
 pub(crate) fn value(node: &toml::Value) -> Option<Value>
-    ensures { result ≡ value_from (view node.now) }
+    ensures { result ≡ text_value (view node.now) }
 {
-    let text = match node.as_str() {
-        Some(text) => text,
-        None => return None,
-    };
-    match read_value(text) {
-        Ok(value) => Some(value),
-        Err(_) => None,
-    }
+    read_value(node.as_str()?).ok()
 }
 
 /// The limit of reviewers of a paper in one institution.
 pub(crate) fn limit(table: &Table) -> Result<u32, Key>
-    ensures same { result ≡ limit_of (table_view table.now) }
+    ensures same { result ≡ limit_setting (table_view table.now) }
     ensures low { IfOk result (λ n. 1 ≤ n) }
     ensures high { IfOk result (λ n. n ≤ 1500) }
 {
-    let node = match at(table, "limit") {
-        Some(node) => node,
-        None => return Ok(1500),
+    let Some(node) = at(table, "limit") else {
+        return Ok(1500);
     };
-    match number(1, 1500, node) {
-        Some(limit) => Ok(limit),
-        None => Err(Key::Limit),
-    }
+    number(1, 1500, node).ok_or(Key::Limit)
 }
 
 fn cap_in(value: Value) -> Option<Value>
@@ -130,14 +149,11 @@ fn cap_in(value: Value) -> Option<Value>
 }
 
 fn cap_of(node: &toml::Value) -> Option<Value>
-    ensures same { result ≡ option_and_then cap_in (value_from (view node.now)) }
+    ensures same { result ≡ option_and_then cap_in (text_value (view node.now)) }
     ensures low { IfSome result (λ v. pos 0 ≤ℤ v) }
     ensures high { IfSome result (λ v. v ≤ℤ pos 10000) }
 {
-    match value(node) {
-        Some(value) => cap_in(value),
-        None => None,
-    }
+    cap_in(value(node)?)
 }
 
 /// This many ten-thousandths.
@@ -154,18 +170,14 @@ pub(crate) fn fixed(tenthousandths: i32) -> Value
 
 /// The cap of a pair that has none of its own.
 pub(crate) fn cap(table: &Table) -> Result<Value, Key>
-    ensures same { result ≡ cap_of (table_view table.now) }
+    ensures same { result ≡ cap_setting (table_view table.now) }
     ensures low { IfOk result (λ v. pos 0 ≤ℤ v) }
     ensures high { IfOk result (λ v. v ≤ℤ pos 10000) }
 {
-    let node = match at(table, "cap") {
-        Some(node) => node,
-        None => return Ok(fixed(10_000)),
+    let Some(node) = at(table, "cap") else {
+        return Ok(fixed(10_000));
     };
-    match cap_of(node) {
-        Some(cap) => Ok(cap),
-        None => Err(Key::Cap),
-    }
+    cap_of(node).ok_or(Key::Cap)
 }
 
 fn pairs_word(text: &str) -> Option<bool>
@@ -183,61 +195,43 @@ fn pairs_word(text: &str) -> Option<bool>
 fn pairs_of(node: &toml::Value) -> Option<bool>
     ensures { result ≡ option_and_then pairs_word (as_str (view node.now)) }
 {
-    match node.as_str() {
-        Some(text) => pairs_word(text),
-        None => None,
-    }
+    pairs_word(node.as_str()?)
 }
 
 /// Whether all pairs are candidates.
 pub(crate) fn all_pairs(table: &Table) -> Result<bool, Key>
-    ensures { result ≡ pairs_of (table_view table.now) }
+    ensures { result ≡ pairs_setting (table_view table.now) }
 {
-    let node = match at(table, "pairs") {
-        Some(node) => node,
-        None => return Ok(false),
+    let Some(node) = at(table, "pairs") else {
+        return Ok(false);
     };
-    match pairs_of(node) {
-        Some(all) => Ok(all),
-        None => Err(Key::Pairs),
-    }
+    pairs_of(node).ok_or(Key::Pairs)
 }
 
 /// The demand of a paper that has none of its own.
 pub(crate) fn demand(table: &Table) -> Result<u32, Key>
-    ensures same { result ≡ demand_of (table_view table.now) }
+    ensures same { result ≡ demand_setting (table_view table.now) }
     ensures high { IfOk result (λ n. n ≤ 100) }
 {
-    let node = match at(table, "demand") {
-        Some(node) => node,
-        None => return Ok(3),
+    let Some(node) = at(table, "demand") else {
+        return Ok(3);
     };
-    match number(0, 100, node) {
-        Some(demand) => Ok(demand),
-        None => Err(Key::Demand),
-    }
+    number(0, 100, node).ok_or(Key::Demand)
 }
 
 fn least(table: &Table) -> Result<u32, Key>
-    ensures { result ≡ least_of (table_view table.now) }
+    ensures { result ≡ least_setting (table_view table.now) }
 {
-    let node = match at(table, "least") {
-        Some(node) => node,
-        None => return Ok(0),
+    let Some(node) = at(table, "least") else {
+        return Ok(0);
     };
-    match number(0, 1500, node) {
-        Some(least) => Ok(least),
-        None => Err(Key::Least),
-    }
+    number(0, 1500, node).ok_or(Key::Least)
 }
 
 fn given_load(least: u32, node: &toml::Value) -> Option<Load>
     ensures { result ≡ option_and_then (load_from least) (number_from 0 1500 (view node.now)) }
 {
-    match number(0, 1500, node) {
-        Some(greatest) => Load::new(least, greatest),
-        None => None,
-    }
+    Load::new(least, number(0, 1500, node)?)
 }
 
 fn greatest_load(table: &Table, least: u32) -> Option<Load>
@@ -251,14 +245,7 @@ fn greatest_load(table: &Table, least: u32) -> Option<Load>
 
 /// The load of a reviewer that has none of its own.
 pub(crate) fn load(table: &Table) -> Result<Load, Key>
-    ensures { result ≡ load_of (table_view table.now) }
+    ensures { result ≡ load_setting (table_view table.now) }
 {
-    let least = match least(table) {
-        Ok(least) => least,
-        Err(key) => return Err(key),
-    };
-    match greatest_load(table, least) {
-        Some(load) => Ok(load),
-        None => Err(Key::Greatest),
-    }
+    greatest_load(table, least(table)?).ok_or(Key::Greatest)
 }

@@ -1,4 +1,4 @@
-// The files of a conference as rows: papers, reviewers, values, bids, marks, caps.
+// The files of a conference as rows: papers, reviewers, values, bids, marks, caps; and its settings.
 #![tactic(auto)]
 
 mod document;

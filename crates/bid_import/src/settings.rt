@@ -1,9 +1,7 @@
 ghost use Rattle.std.specs.Prelude.{◌≡◌, ◌≤◌, length, IfOk};
-ghost use Rattle.roster.specs.Table.{Ascend};
-ghost use Rattle.score_spec.specs.declared.spec.BidWord.{BidWord};
 ghost use Rattle.toml.specs.View.{table_view};
 ghost use Rattle.bid_import.specs.Documents.{ReadsKey};
-ghost use Rattle.bid_import.specs.Settings.{settings_of, settings_of_file, spec_of, default_settings, ImportsSettings};
+ghost use Rattle.bid_import.specs.Settings.{HasDistinctNames, AscendInBytes, settings_of, settings_of_file, spec_setting, default_settings, ImportsSettings};
 
 use crate::document::{self, KeyFault, TableFault, fixed, read_table};
 use crate::fault::{Code, ImportFault, Key};
@@ -39,9 +37,7 @@ impl Model for Settings {
 
 impl Settings {
     ghost use Rattle.std.specs.Prelude.{◌≡◌, ◌≤◌, ◌≤ℤ◌, pos, length, IfOk};
-    ghost use Rattle.roster.specs.Table.{Ascend};
-    ghost use Rattle.score_spec.specs.declared.spec.BidWord.{BidWord};
-    ghost use Rattle.bid_import.specs.Settings.{default_settings};
+    ghost use Rattle.bid_import.specs.Settings.{default_settings, HasDistinctNames, AscendInBytes};
 
     /// The settings of a venue that has no file of them.
     pub fn standard(alloc: Global) -> Result<Settings, AllocError>
@@ -103,7 +99,8 @@ impl Settings {
     pub fn spec(&self) -> &Spec
         ensures same { result.now ≡ self.now.spec }
         ensures few { length result.now.sources ≤ 8 }
-        ensures order { Ascend (λ (w : BidWord). w.word) result.now.words }
+        ensures names { HasDistinctNames result.now.sources }
+        ensures order { AscendInBytes result.now.words }
     {
         &self.spec
     }
@@ -134,18 +131,14 @@ fn default_load() -> Load
 }
 
 fn spec(alloc: Global, table: &Table) -> Result<Spec, KeyFault>
-    ensures same { ReadsKey result (spec_of (table_view table.now)) }
+    ensures same { ReadsKey result (spec_setting (table_view table.now)) }
     ensures few { IfOk result (λ spec. length spec.sources ≤ 8) }
-    ensures order { IfOk result (λ spec. Ascend (λ (w : BidWord). w.word) spec.words) }
+    ensures names { IfOk result (λ spec. HasDistinctNames spec.sources) }
+    ensures order { IfOk result (λ spec. AscendInBytes spec.words) }
 {
-    let sources = match sources(alloc, table) {
-        Ok(sources) => sources,
-        Err(fault) => return Err(fault),
-    };
-    match words(alloc, table) {
-        Ok(words) => Ok(Spec { sources, words }),
-        Err(fault) => Err(fault),
-    }
+    let sources = sources(alloc, table)?;
+    let words = words(alloc, table)?;
+    Ok(Spec { sources, words })
 }
 
 fn settings_in(alloc: Global, table: &Table) -> Result<Settings, KeyFault>
@@ -154,37 +147,20 @@ fn settings_in(alloc: Global, table: &Table) -> Result<Settings, KeyFault>
     if !knows_all(table) {
         return Err(KeyFault::At(Key::Unknown));
     }
-    let limit = match document::limit(table) {
-        Ok(limit) => limit,
-        Err(key) => return Err(KeyFault::At(key)),
-    };
-    let cap = match document::cap(table) {
-        Ok(cap) => cap,
-        Err(key) => return Err(KeyFault::At(key)),
-    };
-    let all_pairs = match document::all_pairs(table) {
-        Ok(all_pairs) => all_pairs,
-        Err(key) => return Err(KeyFault::At(key)),
-    };
-    let demand = match document::demand(table) {
-        Ok(demand) => demand,
-        Err(key) => return Err(KeyFault::At(key)),
-    };
-    let load = match document::load(table) {
-        Ok(load) => load,
-        Err(key) => return Err(KeyFault::At(key)),
-    };
-    match spec(alloc, table) {
-        Ok(spec) => Ok(Settings {
-            limit,
-            cap,
-            all_pairs,
-            demand,
-            load,
-            spec,
-        }),
-        Err(fault) => Err(fault),
-    }
+    let limit = document::limit(table)?;
+    let cap = document::cap(table)?;
+    let all_pairs = document::all_pairs(table)?;
+    let demand = document::demand(table)?;
+    let load = document::load(table)?;
+    let spec = spec(alloc, table)?;
+    Ok(Settings {
+        limit,
+        cap,
+        all_pairs,
+        demand,
+        load,
+        spec,
+    })
 }
 
 fn at_row_0(code: Code) -> ImportFault

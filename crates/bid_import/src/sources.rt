@@ -7,7 +7,7 @@ ghost use Rattle.toml.specs.Data.{get_member, as_table};
 ghost use Rattle.toml.specs.View.{view, table_view};
 ghost use Rattle.score_spec.specs.Sources.{SourceValue, IsWeight};
 ghost use Rattle.bid_import.specs.Documents.{ReadsKey, ReadsItems};
-ghost use Rattle.bid_import.specs.Settings.{is_name_byte, is_source_name, name_from, kind_word, kind_from, weight_in, weight_from, value_from, optional, source_from, are_distinct, sources_in, sources_from, sources_of, affinity, each};
+ghost use Rattle.bid_import.specs.Settings.{is_name_byte, is_source_name, name_from, kind_word, kind_from, weight_in, weight_from, text_value, optional, source_from, are_distinct, HasDistinctNames, sources_in, sources_from, sources_setting, affinity, each};
 
 use crate::document::{KeyFault, at, fixed, value};
 use crate::fault::Key;
@@ -42,10 +42,7 @@ fn is_source_name(text: &str) -> bool
 fn name_of(node: &toml::Value) -> Option<&str>
     ensures { option_map (λ t. t.now) result ≡ name_from (view node.now) }
 {
-    let text = match node.as_str() {
-        Some(text) => text,
-        None => return None,
-    };
+    let text = node.as_str()?;
     if is_source_name(text) {
         return Some(text);
     }
@@ -55,10 +52,7 @@ fn name_of(node: &toml::Value) -> Option<&str>
 fn name(table: &Table) -> Option<&str>
     ensures { option_map (λ t. t.now) result ≡ option_and_then name_from (get_member (codes "name") (table_view table.now)) }
 {
-    match at(table, "name") {
-        Some(node) => name_of(node),
-        None => None,
-    }
+    name_of(at(table, "name")?)
 }
 
 fn kind_word(text: &str) -> Option<Kind>
@@ -76,19 +70,13 @@ fn kind_word(text: &str) -> Option<Kind>
 fn kind_of(node: &toml::Value) -> Option<Kind>
     ensures { result ≡ kind_from (view node.now) }
 {
-    match node.as_str() {
-        Some(text) => kind_word(text),
-        None => None,
-    }
+    kind_word(node.as_str()?)
 }
 
 fn kind(table: &Table) -> Option<Kind>
     ensures { result ≡ option_and_then kind_from (get_member (codes "kind") (table_view table.now)) }
 {
-    match at(table, "kind") {
-        Some(node) => kind_of(node),
-        None => None,
-    }
+    kind_of(at(table, "kind")?)
 }
 
 fn weight_in(number: i64) -> Option<i32>
@@ -106,10 +94,7 @@ fn weight_in(number: i64) -> Option<i32>
 fn weight_of(node: &toml::Value) -> Option<i32>
     ensures { result ≡ weight_from (view node.now) }
 {
-    match node.as_integer() {
-        Some(number) => weight_in(number),
-        None => None,
-    }
+    weight_in(node.as_integer()?)
 }
 
 fn weight(table: &Table) -> Option<i32>
@@ -122,7 +107,7 @@ fn weight(table: &Table) -> Option<i32>
 }
 
 fn default(table: &Table) -> Option<Value>
-    ensures { result ≡ optional (pos 0) value_from (get_member (codes "default") (table_view table.now)) }
+    ensures { result ≡ optional (pos 0) text_value (get_member (codes "default") (table_view table.now)) }
 {
     match at(table, "default") {
         Some(node) => value(node),
@@ -151,35 +136,17 @@ fn made(
 fn source(alloc: Global, table: &Table) -> Result<SourceSpec, KeyFault>
     ensures { ReadsKey result (ok_or (source_from (table_view table.now)) Key.Source) }
 {
-    let name = match name(table) {
-        Some(name) => name,
-        None => return Err(KeyFault::At(Key::Source)),
-    };
-    let kind = match kind(table) {
-        Some(kind) => kind,
-        None => return Err(KeyFault::At(Key::Source)),
-    };
-    let weight = match weight(table) {
-        Some(weight) => weight,
-        None => return Err(KeyFault::At(Key::Source)),
-    };
-    let default = match default(table) {
-        Some(default) => default,
-        None => return Err(KeyFault::At(Key::Source)),
-    };
-    match made(alloc, name, kind, weight, default) {
-        Ok(source) => Ok(source),
-        Err(_) => Err(KeyFault::Memory),
-    }
+    let name = name(table).ok_or(Key::Source)?;
+    let kind = kind(table).ok_or(Key::Source)?;
+    let weight = weight(table).ok_or(Key::Source)?;
+    let default = default(table).ok_or(Key::Source)?;
+    Ok(made(alloc, name, kind, weight, default)?)
 }
 
 fn source_of(alloc: Global, node: &toml::Value) -> Result<SourceSpec, KeyFault>
     ensures { ReadsKey result (ok_or (option_and_then source_from (as_table (view node.now))) Key.Source) }
 {
-    match node.as_table() {
-        Some(table) => source(alloc, table),
-        None => Err(KeyFault::At(Key::Source)),
-    }
+    source(alloc, node.as_table().ok_or(Key::Source)?)
 }
 
 fn all_sources(alloc: Global, nodes: &[toml::Value]) -> Result<Vec<SourceSpec>, KeyFault>
@@ -187,13 +154,7 @@ fn all_sources(alloc: Global, nodes: &[toml::Value]) -> Result<Vec<SourceSpec>, 
 {
     let mut sources = Vec::new(alloc);
     for node in nodes {
-        let source = match source_of(alloc, node) {
-            Ok(source) => source,
-            Err(fault) => return Err(fault),
-        };
-        if sources.push(source).is_err() {
-            return Err(KeyFault::Memory);
-        }
+        sources.push(source_of(alloc, node)?)?;
     }
     Ok(sources)
 }
@@ -224,14 +185,12 @@ fn are_distinct(sources: &[SourceSpec]) -> bool
 fn sources_in(alloc: Global, nodes: &[toml::Value]) -> Result<Sources, KeyFault>
     ensures same { ReadsKey result (ok_or (sources_in (map view nodes.now)) Key.Source) }
     ensures few { IfOk result (λ sources. length sources ≤ 8) }
+    ensures names { IfOk result HasDistinctNames }
 {
     if nodes.len() > 8 {
         return Err(KeyFault::At(Key::Source));
     }
-    let sources = match all_sources(alloc, nodes) {
-        Ok(sources) => sources,
-        Err(fault) => return Err(fault),
-    };
+    let sources = all_sources(alloc, nodes)?;
     if !are_distinct(sources.as_slice()) {
         return Err(KeyFault::At(Key::Source));
     }
@@ -241,11 +200,10 @@ fn sources_in(alloc: Global, nodes: &[toml::Value]) -> Result<Sources, KeyFault>
 fn sources_of(alloc: Global, node: &toml::Value) -> Result<Sources, KeyFault>
     ensures same { ReadsKey result (ok_or (sources_from (view node.now)) Key.Source) }
     ensures few { IfOk result (λ sources. length sources ≤ 8) }
+    ensures names { IfOk result HasDistinctNames }
 {
-    match node.as_array() {
-        Some(nodes) => sources_in(alloc, nodes.as_slice()),
-        None => Err(KeyFault::At(Key::Source)),
-    }
+    let nodes = node.as_array().ok_or(Key::Source)?;
+    sources_in(alloc, nodes.as_slice())
 }
 
 /// The one source of settings that name none.
@@ -260,14 +218,12 @@ pub(crate) fn default_sources(alloc: Global) -> Result<Sources, AllocError>
 
 /// The sources.
 pub(crate) fn sources(alloc: Global, table: &Table) -> Result<Sources, KeyFault>
-    ensures same { ReadsKey result (sources_of (table_view table.now)) }
+    ensures same { ReadsKey result (sources_setting (table_view table.now)) }
     ensures few { IfOk result (λ sources. length sources ≤ 8) }
+    ensures names { IfOk result HasDistinctNames }
 {
     match at(table, "source") {
         Some(node) => sources_of(alloc, node),
-        None => match default_sources(alloc) {
-            Ok(sources) => Ok(sources),
-            Err(_) => Err(KeyFault::Memory),
-        },
+        None => Ok(default_sources(alloc)?),
     }
 }

@@ -2,10 +2,8 @@
 
 ghost use Rattle.std.specs.Prelude.{◌≡◌, ◌≤ℤ◌, pos, neg_ℤ, ok_or, IfOk};
 ghost use Rattle.toml.specs.View.{view, table_view};
-ghost use Rattle.roster.specs.Table.{Ascend};
-ghost use Rattle.score_spec.specs.declared.spec.BidWord.{BidWord};
 ghost use Rattle.bid_import.specs.Documents.{ReadsKey, ReadsItems};
-ghost use Rattle.bid_import.specs.Settings.{bid_word, default_words, word_from, words_from, words_of, entries, each};
+ghost use Rattle.bid_import.specs.Settings.{AscendInBytes, bid_word, default_words, word_from, words_from, words_setting, entries, each};
 
 use crate::document::{KeyFault, at, fixed, value};
 use crate::fault::Key;
@@ -22,48 +20,31 @@ fn word_of(alloc: Global, key: &str, node: &toml::Value) -> Result<BidWord, KeyF
     if key.len() > 64 {
         return Err(KeyFault::At(Key::Bids));
     }
-    let value = match value(node) {
-        Some(value) => value,
-        None => return Err(KeyFault::At(Key::Bids)),
-    };
-    match Text::read(alloc, key) {
-        Ok(word) => Ok(BidWord { word, value }),
-        Err(_) => Err(KeyFault::Memory),
-    }
+    let value = value(node).ok_or(Key::Bids)?;
+    let word = Text::read(alloc, key)?;
+    Ok(BidWord { word, value })
 }
 
 fn all_words(alloc: Global, table: &Table) -> Result<Vec<BidWord>, KeyFault>
     ensures same { ReadsItems result (ok_or (each word_from (entries (table_view table.now))) Key.Bids) }
-    ensures order { IfOk result (λ words. Ascend (λ (w : BidWord). w.word) words.items) }
+    ensures order { IfOk result (λ words. AscendInBytes words.items) }
 {
     let mut words = Vec::new(alloc);
     for (key, node) in table.iter() {
-        let word = match word_of(alloc, key.as_str(), node) {
-            Ok(word) => word,
-            Err(fault) => return Err(fault),
-        };
-        if words.push(word).is_err() {
-            return Err(KeyFault::Memory);
-        }
+        words.push(word_of(alloc, key.as_str(), node)?)?;
     }
     Ok(words)
 }
 
 fn words_of(alloc: Global, node: &toml::Value) -> Result<Words, KeyFault>
     ensures same { ReadsKey result (ok_or (words_from (view node.now)) Key.Bids) }
-    ensures order { IfOk result (λ words. Ascend (λ (w : BidWord). w.word) words) }
+    ensures order { IfOk result AscendInBytes }
 {
-    let table = match node.as_table() {
-        Some(table) => table,
-        None => return Err(KeyFault::At(Key::Bids)),
-    };
+    let table = node.as_table().ok_or(Key::Bids)?;
     if table.len() > 32 {
         return Err(KeyFault::At(Key::Bids));
     }
-    match all_words(alloc, table) {
-        Ok(words) => Ok(Words::from_vec(words)),
-        Err(fault) => Err(fault),
-    }
+    Ok(Words::from_vec(all_words(alloc, table)?))
 }
 
 fn word(alloc: Global, text: &str, tenthousandths: i32) -> Result<BidWord, AllocError>
@@ -93,14 +74,11 @@ pub(crate) fn default_words(alloc: Global) -> Result<Words, AllocError>
 
 /// The words of bids, in the order of their bytes.
 pub(crate) fn words(alloc: Global, table: &Table) -> Result<Words, KeyFault>
-    ensures same { ReadsKey result (words_of (table_view table.now)) }
-    ensures order { IfOk result (λ words. Ascend (λ (w : BidWord). w.word) words) }
+    ensures same { ReadsKey result (words_setting (table_view table.now)) }
+    ensures order { IfOk result AscendInBytes }
 {
     match at(table, "bids") {
         Some(node) => words_of(alloc, node),
-        None => match default_words(alloc) {
-            Ok(words) => Ok(words),
-            Err(_) => Err(KeyFault::Memory),
-        },
+        None => Ok(default_words(alloc)?),
     }
 }

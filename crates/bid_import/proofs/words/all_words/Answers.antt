@@ -6,7 +6,7 @@ use Rattle.toml.specs.View.{view, members_view}
 use Rattle.toml.proofs.Views.{Entry}
 use Rattle.bid_import.specs.declared.fault.Key.TheVariants.{Bids}
 use Rattle.bid_import.specs.Settings.{entries, word_from}
-use Rattle.bid_import.proofs.Documents.{after, after-more, after-stop, after-end, given-by, refused-with}
+use Rattle.bid_import.proofs.Documents.{after, after-more, after-end, given-by}
 use Rattle.bid_import.proofs.BidWords.{ascends}
 use Rattle.bid_import.proofs.words.all_words.Goals as goal
 
@@ -15,20 +15,12 @@ loop-key-preserved c =
     let (can, finite, same) = c.loop-key.invariant in
     let e : Entry = (c.in-Some.key.now, c.in-Some.node.now) in
     let iter : c.loop-key.key-iterator ≡ e ∷ c.next.new.self = grind (arith, common_steps) in
-    let read : word_from (string_bytes e.0, view e.1) ≡ Some c.in-Ok.word = given-by _ Bids _ (rw c.as_str.ensures.value at c.in-Ok.ensures) in
+    let read : word_from (string_bytes e.0, view e.1) ≡ Some c.in_ok-word_of.field-0 = given-by _ Bids _ (rw c.as_str.ensures.value at c.in_ok-word_of.ensures) in
     let good : is_ok c.push.result ≡ true = search rules in
     let items = rw good at c.push.ensures.items in
     let rest = entries (members_view c.next.new.self) in
-    let step = after-more word_from c.loop-key.words.items (string_bytes e.0, view e.1) rest c.in-Ok.word read in
+    let step = after-more word_from c.loop-key.words.items (string_bytes e.0, view e.1) rest c.in_ok-word_of.field-0 read in
     (tt, tt, same ∙ ap (λ es. after word_from c.loop-key.words.items (entries (members_view es))) iter ∙ step ∙ ap (λ ws. after word_from ws rest) (sym items))
-
-pub returns-in-Err-clause-same : goal.returns-in-Err-clause-same
-returns-in-Err-clause-same c =
-    let (can, finite, same) = c.loop-key.invariant in
-    let e : Entry = (c.in-Some.key.now, c.in-Some.node.now) in
-    let iter : c.loop-key.key-iterator ≡ e ∷ c.next.new.self = grind (arith, common_steps) in
-    let whole = same ∙ ap (λ es. after word_from c.loop-key.words.items (entries (members_view es))) iter in
-    refused-with _ _ _ Bids (rw c.as_str.ensures.value at c.in-Err.ensures) (λ none. whole ∙ after-stop word_from c.loop-key.words.items (string_bytes e.0, view e.1) (entries (members_view c.next.new.self)) none)
 
 pub returns-clause-same : goal.returns-clause-same
 returns-clause-same c =
