@@ -1,5 +1,5 @@
 // The lines that the check writes.
-ghost use Rattle.std.specs.Prelude.{◌≡◌, ◌+◌, ◌≤◌, length, codes};
+ghost use Rattle.std.specs.Prelude.{◌≡◌, ◌≤◌, length, codes};
 ghost use Rattle.matcher_cli.specs.Lines.{signed_and_number, valid_line, broken_line, one_number, two_numbers, three_numbers, one_signed, two_signed};
 
 use match_rules::{Answer, Break};

@@ -1,5 +1,5 @@
 // The top call: words, what they read, and what they write.
-ghost use Rattle.std.specs.Prelude.{◌≡◌, ◌≢◌, ◌⊎◌, ◌++◌, [], ℕ, List, true, false, IsSome};
+ghost use Rattle.std.specs.Prelude.{◌≡◌, ◌≢◌, ◌⊎◌, [], true, false, IsSome};
 ghost use Rattle.edge_io.specs.Counts.{Rose};
 ghost use Rattle.edge_io.specs.Told.{told};
 ghost use Rattle.publication.specs.Certificates.{IsCertificate};

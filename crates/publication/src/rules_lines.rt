@@ -1,9 +1,8 @@
 // The lines of the text of rules, put together without taking memory.
-ghost use Rattle.std.specs.Prelude.{◌≡◌, ◌+◌, ◌≤◌, true, ◌++◌, ◌∷◌, [], length, decimal, Some};
+ghost use Rattle.std.specs.Prelude.{◌≡◌, ◌+◌, ◌≤◌, true, ◌++◌, ◌∷◌, [], length, decimal};
 ghost use Rattle.std.specs.Fmt.{signed_decimal};
 ghost use Rattle.std.specs.Option.{option_map_or};
 ghost use Rattle.match_rules.specs.Id.{is_id};
-ghost use Rattle.match_rules.specs.Rules.{most_score};
 ghost use Rattle.text_lines.specs.Forms.{count_line};
 ghost use Rattle.text_lines.specs.Texts.{line_of};
 ghost use Rattle.publication.specs.RulesText.{paper_line, reviewer_line, pair_line};
