@@ -1,5 +1,5 @@
 -- Documents of settings as lists, read one by one.
-use Rattle.std.proofs.Common.{◌≡◌, ℕ, zero, suc, ◌<◌, Bool, false, List, [], ◌∷◌, ◌++◌, length, map, get_or, Option, Some, None, Ok, Bor, string_bytes, refl, sym, ap, ◌∙◌, inl, inr, arith, append_assoc, append-nil}
+use Rattle.std.proofs.Common.{◌≡◌, ℕ, zero, suc, ◌<◌, Bool, false, List, [], ◌∷◌, ◌++◌, length, map, get_or, Option, Some, None, Ok, Err, Bor, string_bytes, refl, sym, ap, ◌∙◌, inl, inr, arith, append_assoc, append-nil}
 use Rattle.std.specs.Prelude.{option_map, option_and_then, ok_or, ◌&&◌}
 use Rattle.std.specs.List.{list_all, list_any}
 use Rattle.std.specs.Str.{bytes_eq}
@@ -10,6 +10,9 @@ use Rattle.toml.specs.View.{view, items_view, members_view}
 use Rattle.toml.specs.declared.value.Value.{Value}
 use Rattle.toml.proofs.Views.{Entry}
 use Rattle.bid_import.specs.declared.fault.Key.{Key}
+use Rattle.bid_import.specs.declared.document.KeyFault.{KeyFault}
+use Rattle.bid_import.specs.declared.document.KeyFault.TheVariants.{Memory, At}
+use Rattle.bid_import.specs.Documents.{ReadsKey, ReadsItems}
 use Rattle.bid_import.specs.Settings.{listed, entries, each, knows}
 use Rattle.bid_import.proofs.Names.{bytes_of, any-map}
 
@@ -32,6 +35,9 @@ after-more {A} {B} read done x rest y e = rw e (joined (each read rest))
     joined None = refl
     joined (Some xs) = ap Some (sym (append_assoc done (y ∷ []) xs))
 
+pub after-stop : {A B : Type 0} (read : A → Option B) (done : List B) (x : A) (rest : List A) → read x ≡ None → after read done (x ∷ rest) ≡ None
+after-stop read done x rest e = rw e refl
+
 pub after-end : {A B : Type 0} (read : A → Option B) (done : List B) → after read done [] ≡ Some done
 after-end read done = ap Some (append-nil done)
 
@@ -51,11 +57,20 @@ each-length read (x ∷ xs) ys h =
     let (y, more, first, rest, all) = each-parts read x xs ys h in
     ap length all ∙ ap suc (each-length read xs more rest)
 
--- what a test that passes gives
+-- what a test that passes or fails gives
+
+pub refused-by : {A : Type 0} (o : Option A) (k at_fault : Key) → ok_or o k ≡ Err at_fault → (o ≡ None) × (k ≡ at_fault)
+refused-by None k at_fault h = (refl, cc)
+refused-by (Some x) k at_fault h = absurd (cc)
 
 pub given-by : {A : Type 0} (o : Option A) (k : Key) (x : A) → ok_or o k ≡ Ok x → o ≡ Some x
 given-by None k x h = absurd (cc)
 given-by (Some y) k x h = cc
+
+-- where a part is refused the whole is
+pub refused-with : {A B : Type 0} (fault : KeyFault) (o : Option A) (p : Option (List B)) (k : Key) → ReadsKey {A = A} (Err fault) (ok_or o k) → (o ≡ None → p ≡ None) → ReadsItems {A = B} (Err fault) (ok_or p k)
+refused-with Memory o p k h none = tt
+refused-with (At at_fault) o p k h none = let two = refused-by o k at_fault h in let whole = none two.0 in rw (whole, two.1) refl
 
 -- keys
 

@@ -25,6 +25,10 @@ known-tables d vs h = rw (← h, listed-view vs) refl
 pub sources-listed : (d : Data) (vs : List Value) → Some (items_view vs) ≡ as_array d → sources_in (map view vs) ≡ sources_from d
 sources-listed d vs h = rw (← h, listed-view vs) refl
 
+-- the tables from a place on
+pub tables-from : (vs : List Value) (i : ℕ) (v : Value) → i < length vs → v ≡ get_or vs i v → map view (drop i vs) ≡ view v ∷ map view (drop (i + 1) vs)
+tables-from vs i v lt at = ap (map view) (drop_more vs i v lt ∙ ap (λ w. w ∷ drop (i + 1) vs) (sym at))
+
 pub any-named : (name : List ℕ) (sources : List SourceValue) → list_any (λ (s : SourceValue). bytes_eq s.name name) sources ≡ list_any (λ other. bytes_eq other name) (names sources)
 any-named name [] = refl
 any-named name (s ∷ sources) = let rest = any-named name sources in rw rest refl
