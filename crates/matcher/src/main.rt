@@ -1,7 +1,7 @@
-//! Checks a certificate on standard input: `matcher check`.
+//! `matcher check` checks a certificate on standard input, `matcher rules` writes the rules of the current folder.
 #![tactic(auto)]
 
-use edge_io::{ReadSource, WriteSink};
+use edge_io::{DirFolder, ReadSource, WriteSink};
 use matcher_cli::{Status, matcher};
 use std::alloc::AllocError;
 use std::env;
@@ -21,5 +21,13 @@ fn main(rt: HostRuntime) -> ExitCode {
     };
     let mut source = ReadSource::new(rt.stdin());
     let mut sink = WriteSink::new(rt.stdout());
-    ExitCode::from(matcher(rt.alloc(), words.as_slice(), &mut source, &mut sink).code())
+    let mut folder = DirFolder::new(&rt);
+    let status = matcher(
+        rt.alloc(),
+        words.as_slice(),
+        &mut source,
+        &mut sink,
+        &mut folder,
+    );
+    ExitCode::from(status.code())
 }

@@ -1,2 +1,3 @@
+pub mod IdLengths
+pub mod ServingLaws
 pub mod VerdictLaws
-pub mod WordLaws

@@ -1,3 +1,6 @@
 pub mod Codes
+pub mod FolderRules
 pub mod Lines
+pub mod Refusals
 pub mod Verdicts
+pub mod Words

@@ -50,7 +50,3 @@ broken_line (broken.NotViolated need room) = two_numbers (codes "broken 14 need 
 -- a text that is no certificate
 unfoldable pub refused_line : List ℕ
 refused_line = codes "refused text\n"
-
--- the words that are taken
-unfoldable pub usage_text : List ℕ
-usage_text = codes "usage: matcher check\n"

@@ -1,8 +1,5 @@
 -- What the check answers, and what it writes.
-use Rattle.std.specs.Prelude.{◌≡◌, ◌⊎◌, ℕ, List, [], ◌∷◌, ◌++◌, map, codes, Option, Some, IsSome}
-use Rattle.std.specs.String.{string_bytes}
-use Rattle.std.specs.declared.string.String.{String}
-use Rattle.std.specs.declared.alloc.Global.{Global}
+use Rattle.std.specs.Prelude.{◌≡◌, ◌⊎◌, ℕ, List, ◌++◌, Option, Some, IsSome}
 use Rattle.edge_io.specs.Told.{told}
 use Rattle.match_rules.specs.declared.answer.Answer.{Answer}
 use Rattle.match_rules.specs.declared.breaks.Break.{Break}
@@ -12,10 +9,6 @@ use Rattle.publication.specs.Checks.{check_break_of, Holds}
 use Rattle.matcher_cli.specs.declared.status.Status.{Status}
 use Rattle.matcher_cli.specs.declared.status.Status.TheVariants.{Done, Broken, Usage, ReadFault, WriteFault, Refused, Memory}
 use Rattle.matcher_cli.specs.Lines.{valid_line, broken_line, refused_line}
-
--- the one word that is taken
-abbrev pub IsCheck : List (String Global) → Type 0
-IsCheck words = map string_bytes words ≡ codes "check" ∷ []
 
 -- bytes that are the text of rules and of an answer to them
 pub record IsTextOf (bytes : List ℕ) (rules : RulesValue) (answer : Answer) : Type 0 where

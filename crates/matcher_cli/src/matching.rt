@@ -1,28 +1,23 @@
 // The top call: words, what they read, and what they write.
 ghost use Rattle.std.specs.Prelude.{◌≡◌, ◌≢◌, ◌⊎◌, [], true, false, IsSome};
 ghost use Rattle.edge_io.specs.Counts.{Rose};
+ghost use Rattle.edge_io.specs.Files.{told_files};
 ghost use Rattle.edge_io.specs.Told.{told};
 ghost use Rattle.publication.specs.Certificates.{IsCertificate};
-ghost use Rattle.matcher_cli.specs.Lines.{usage_text, refused_line};
-ghost use Rattle.matcher_cli.specs.Verdicts.{IsCheck, IsExact, Judges, Checks, Written};
+ghost use Rattle.command_words.specs.Usage.{usage_text};
+ghost use Rattle.matcher_cli.specs.FolderRules.{IsServedExactly, RulesServed, rules_in};
+ghost use Rattle.matcher_cli.specs.Lines.{refused_line};
+ghost use Rattle.matcher_cli.specs.Words.{Asks, AsksNothing};
+ghost use Rattle.matcher_cli.specs.Verdicts.{IsExact, Judges, Checks, Written};
 
+use crate::folder_rules::serve_rules;
 use crate::lines::{broken_line, valid_line};
 use crate::status::Status;
-use edge_io::{Sink, Source, write_all};
+use command_words::{Command, WordsFault, read_words, usage};
+use edge_io::{Folder, Sink, Source, write_all};
 use match_rules::{Answer, Rules, Scratch};
 use publication::{ReadRefusal, check, read_certificate};
 use std::alloc::Global;
-
-// Whether the words are those of the check.
-fn is_check(words: &[String]) -> bool
-    ensures yes { result ≡ true → IsCheck words.now }
-    ensures no_other { result ≡ false → ¬ (IsCheck words.now) }
-{
-    match words {
-        [word] => word.as_str() == "check",
-        _ => false,
-    }
-}
 
 // Says that an answer is valid, or its first break.
 fn judge<K: Sink>(alloc: Global, rules: &Rules, answer: &Answer, sink: &mut K) -> Status
@@ -46,13 +41,12 @@ fn judge<K: Sink>(alloc: Global, rules: &Rules, answer: &Answer, sink: &mut K) -
 }
 
 // Says that the words aren't taken.
-#[tactic(auto, unfolding(crate::specs::Lines::usage_text))]
 fn refuse_words<K: Sink>(sink: &mut K) -> Status
     ensures status { (result ≡ Status.Usage) ⊎ (result ≡ Status.WriteFault) }
     ensures written { result ≡ Status.Usage → Written (told (K.taken sink.old)) (K.taken sink.new) usage_text }
     ensures cause { result ≡ Status.WriteFault → Rose (K.faults sink.old) (K.faults sink.new) }
 {
-    match write_all(sink, b"usage: matcher check\n") {
+    match write_all(sink, usage()) {
         Ok(()) => Status::Usage,
         Err(_) => Status::WriteFault,
     }
@@ -88,32 +82,41 @@ fn check_text<S: Source, K: Sink>(alloc: Global, source: &mut S, sink: &mut K) -
     }
 }
 
-/// Does what the words ask: with the one word `check` it reads a certificate from the source, all that there is, and
-/// writes the line of the check into the sink. Its memory is that of the certificate, of its longest line, 65,536
-/// bytes, and a counter for each paper, reviewer, group and pair.
-pub fn matcher<S: Source, K: Sink>(
+/// Does what the words ask. With the one word `check` it reads a certificate from the source, all that there is, and
+/// writes the line of the check into the sink; its memory is that of the certificate, of its longest line, 65,536
+/// bytes, and a counter for each paper, reviewer, group and pair. With the one word `rules` it reads the files of the
+/// folder and writes their rules; its memory is that of the files one at a time, and of what they make.
+pub fn matcher<S: Source, K: Sink, F: Folder>(
     alloc: Global,
     words: &[String],
     source: &mut S,
     sink: &mut K,
+    folder: &mut F,
 ) -> Status
     // Other words are refused, and they alone.
-    ensures usage { result ≡ Status.Usage → ¬ (IsCheck words.now) }
-    ensures refused_words { ¬ (IsCheck words.now) → (result ≡ Status.Usage) ⊎ (result ≡ Status.WriteFault) }
+    ensures usage { result ≡ Status.Usage → AsksNothing words.now }
+    ensures refused_words { AsksNothing words.now → (result ≡ Status.Usage) ⊎ ((result ≡ Status.WriteFault) ⊎ (result ≡ Status.Memory)) }
     ensures usage_line { result ≡ Status.Usage → Written (told (K.taken sink.old)) (K.taken sink.new) usage_text }
 
-    // Where the source tells its bytes: 0 comes exactly where they are the text of rules and of a valid answer, 1 where
-    // it breaks a clause, with the line of the first, 6 where they are no such text.
-    ensures checks { IsSome (S.left source.new) → IsCheck words.now → Checks result (told (S.left source.old)) (told (K.taken sink.old)) (K.taken sink.new) }
-    ensures exact { IsSome (S.left source.new) → IsCheck words.now → IsExact (told (S.left source.old)) result }
-    ensures end { IsSome (S.left source.new) → result ≡ Status.Done → told (S.left source.new) ≡ [] }
+    // The check, where the source tells its bytes: 0 comes exactly where they are the text of rules and of a valid
+    // answer, 1 where it breaks a clause, with the line of the first, 6 where they are no such text.
+    ensures checks { IsSome (S.left source.new) → Asks words.now Command.Check → Checks result (told (S.left source.old)) (told (K.taken sink.old)) (K.taken sink.new) }
+    ensures exact { IsSome (S.left source.new) → Asks words.now Command.Check → IsExact (told (S.left source.old)) result }
+    ensures end { IsSome (S.left source.new) → Asks words.now Command.Check → result ≡ Status.Done → told (S.left source.new) ≡ [] }
+    ensures source_fault { Asks words.now Command.Check → result ≡ Status.ReadFault → Rose (S.faults source.old) (S.faults source.new) }
 
-    ensures read_fault { result ≡ Status.ReadFault → Rose (S.faults source.old) (S.faults source.new) }
+    // The rules, where the folder tells its files: 0 comes exactly where they make rules, with their text, 6 where they
+    // don't, with the line of the first that is wrong.
+    ensures rules { IsSome (F.files folder.new) → Asks words.now Command.Rules → RulesServed result (told_files (F.files folder.old)) (told (K.taken sink.old)) (K.taken sink.new) }
+    ensures exact_rules { IsSome (F.files folder.new) → Asks words.now Command.Rules → IsServedExactly (rules_in (told_files (F.files folder.old))) result }
+    ensures folder_fault { Asks words.now Command.Rules → result ≡ Status.ReadFault → Rose (F.faults folder.old) (F.faults folder.new) }
+
     ensures write_fault { result ≡ Status.WriteFault → Rose (K.faults sink.old) (K.faults sink.new) }
 {
-    if is_check(words) {
-        check_text(alloc, source, sink)
-    } else {
-        refuse_words(sink)
+    match read_words(alloc, words) {
+        Ok(Command::Check) => check_text(alloc, source, sink),
+        Ok(Command::Rules) => serve_rules(alloc, folder, sink),
+        Err(WordsFault::Usage) => refuse_words(sink),
+        Err(WordsFault::Memory) => Status::Memory,
     }
 }

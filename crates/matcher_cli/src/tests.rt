@@ -1,6 +1,6 @@
 // The table of what `matcher check` answers, and faults in mid-stream.
 use crate::*;
-use edge_io::{MemorySink, MemorySource, SureSink, SureSource};
+use edge_io::{MemoryFolder, MemorySink, MemorySource, SureSink, SureSource};
 use std::alloc::{AllocError, Global};
 use std::test::Fail;
 
@@ -96,6 +96,10 @@ fn one_word(alloc: Global, word: &str) -> Result<Vec<String>, AllocError> {
     Ok(words)
 }
 
+fn no_files(alloc: Global) -> Result<MemoryFolder, AllocError> {
+    MemoryFolder::new(Vec::new(alloc), Vec::new(alloc))
+}
+
 // The status of these bytes, where this line was written.
 fn answered(
     alloc: Global,
@@ -106,7 +110,8 @@ fn answered(
     let words = one_word(alloc, word)?;
     let mut source = SureSource::new(bytes);
     let mut sink = SureSink::new(alloc);
-    let status = matcher(alloc, words.as_slice(), &mut source, &mut sink);
+    let mut folder = no_files(alloc)?;
+    let status = matcher(alloc, words.as_slice(), &mut source, &mut sink, &mut folder);
     if sink.bytes() == line.as_bytes() {
         Ok(Some(status))
     } else {
@@ -241,7 +246,8 @@ fn other_texts_are_refused(rt: HostRuntime) -> Result<(), Fail> {
 #[test]
 fn other_words_are_refused(rt: HostRuntime) -> Result<(), Fail> {
     let alloc = rt.alloc();
-    let status = answered(alloc, "rules", Vec::new(alloc), "usage: matcher check\n")?;
+    let usage = "usage: matcher check\n       matcher rules\n";
+    let status = answered(alloc, "rule", Vec::new(alloc), usage)?;
     assert_eq!(rt; status, Some(Status::Usage));
     Ok(())
 }
@@ -252,7 +258,8 @@ fn a_read_that_fails_in_the_middle_is_told(rt: HostRuntime) -> Result<(), Fail> 
     let words = one_word(alloc, "check")?;
     let mut source = MemorySource::new(shipped(alloc)?, [2].to_vec(alloc)?)?;
     let mut sink = SureSink::new(alloc);
-    let status = matcher(alloc, words.as_slice(), &mut source, &mut sink);
+    let mut folder = no_files(alloc)?;
+    let status = matcher(alloc, words.as_slice(), &mut source, &mut sink, &mut folder);
     assert_eq!(rt; status, Status::ReadFault);
     assert_eq!(rt; sink.bytes().len(), 0);
     Ok(())
@@ -264,7 +271,8 @@ fn a_write_that_fails_is_told(rt: HostRuntime) -> Result<(), Fail> {
     let words = one_word(alloc, "check")?;
     let mut source = SureSource::new(shipped(alloc)?);
     let mut sink = MemorySink::new(alloc, [1].to_vec(alloc)?)?;
-    let status = matcher(alloc, words.as_slice(), &mut source, &mut sink);
+    let mut folder = no_files(alloc)?;
+    let status = matcher(alloc, words.as_slice(), &mut source, &mut sink, &mut folder);
     assert_eq!(rt; status, Status::WriteFault);
     Ok(())
 }

@@ -1,0 +1,5 @@
+-- The usage text.
+use Rattle.std.specs.Prelude.{ℕ, List, codes}
+
+unfoldable pub usage_text : List ℕ
+usage_text = codes "usage: matcher check\n       matcher rules\n"

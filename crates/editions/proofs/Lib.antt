@@ -1,0 +1,13 @@
+pub mod Rows
+pub mod Keeping
+pub mod Makes
+pub mod Folders
+pub mod AnswerLaws
+pub mod CapLaws
+pub mod CellLaws
+pub mod CellMaps
+pub mod FoundLaws
+pub mod LockLaws
+pub mod PairLaws
+pub mod RowLaws
+pub mod RuleLaws

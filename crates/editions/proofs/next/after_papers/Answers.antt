@@ -1,0 +1,18 @@
+use Rattle.std.proofs.Common.{refl}
+use Rattle.editions.specs.Edits.{venue_after}
+use Rattle.editions.proofs.Keeping.{papers_after_keep}
+use Rattle.editions.proofs.Makes.{then_fails, start_keeps_demands}
+use Rattle.editions.proofs.next.after_papers.Goals as goal
+
+pub invariant_of-result : goal.invariant_of-result
+invariant_of-result c =
+    let made = rw c.start_of_rows-start.ensures at c.in-Ok.ensures in
+    record { demands = papers_after_keep _ c.args.body.now c.in-Ok.papers (start_keeps_demands c.args.how c.venue.inside.papers c.venue.invariant.demands) made; caps = c.venue.invariant.caps }
+
+pub returns-in-Ok : goal.returns-in-Ok
+unfolding venue_after
+returns-in-Ok c = let made = rw c.start_of_rows-start.ensures at c.in-Ok.ensures in rw (← c.venue.view_is, made) refl
+
+pub returns-in-Err : goal.returns-in-Err
+unfolding venue_after
+returns-in-Err c = let fails = rw c.start_of_rows-start.ensures at c.in-Err.ensures in rw (← c.venue.view_is) (then_fails c.in-Err.fault _ _ fails)

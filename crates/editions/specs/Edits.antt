@@ -1,0 +1,95 @@
+-- The venue after an edit.
+use Rattle.std.specs.Prelude.{◌≡◌, ℕ, Bool, if◌then◌else◌, List, [], ◌∷◌, Option, Some, None, Result, Ok, Err, ℤ, ⊤}
+use Rattle.std.specs.List.{list_any}
+use Rattle.std.specs.Str.{bytes_eq}
+use Rattle.roster.specs.declared.rows.PaperRow.{PaperRow}
+use Rattle.roster.specs.declared.rows.ReviewerRow.{ReviewerRow}
+use Rattle.score_spec.specs.Scores.{ScoresValue, without_values}
+use Rattle.score_spec.specs.PairTables.{PairsValue}
+use Rattle.bid_import.specs.Files.{rows_of_file, first_row_of}
+use Rattle.bid_import.specs.Kinds.{paper_row, paper_columns, reviewer_row, reviewer_columns, value_row, value_columns, bid_row, bid_columns, mark_row, mark_columns, cap_row, cap_columns}
+use Rattle.bid_import.specs.Settings.{SettingsValue, settings_of_file}
+use Rattle.bid_import.specs.declared.fault.Code.{Code}
+use Rattle.bid_import.specs.declared.fault.Code.TheVariants.{UnknownSource}
+use Rattle.bid_import.specs.declared.fault.ImportFault.{ImportFault}
+use Rattle.bid_import.specs.declared.fault.ImportFault.TheVariants.{Memory, Bad}
+use Rattle.editions.specs.declared.edit.How.{How}
+use Rattle.editions.specs.declared.edit.How.TheVariants.{Merge, Replace}
+use Rattle.editions.specs.declared.edit.TableName.{TableName}
+use Rattle.editions.specs.declared.edit.TableName.TheVariants.{Settings, Papers, Reviewers, Values, Bids, Marks, Caps}
+use Rattle.editions.specs.Puts.{put_all, paper_has_room, put_paper, reviewer_has_room, put_reviewer, value_has_room, put_value_row, bid_has_room, put_bid_row, mark_has_room, put_mark_row, cap_has_room, put_cap_row}
+use Rattle.editions.specs.Venues.{VenueValue, is_values_source, with_settings, without_bids}
+
+-- what a body makes of something: that, or the row at fault and its code
+abbrev pub Made : Type 0 → Type 0
+Made A = Result A (ℕ × Code)
+
+abbrev pub then_make : {A B : Type 0} → Made A → (A → Made B) → Made B
+then_make (Ok x) more = more x
+then_make (Err fault) more = Err fault
+
+-- the answer has what was made, or the row at fault and its code; or memory was wanting
+abbrev pub Makes : {A : Type 0} → Result A ImportFault → Made A → Type 0
+Makes (Ok x) made = made ≡ Ok x
+Makes (Err Memory) made = ⊤
+Makes (Err (Bad row code)) made = made ≡ Err (row, code)
+
+-- a table that is merged into, or emptied first
+abbrev pub start_of : {R : Type 0} → How → List R → List R
+start_of Merge table = table
+start_of Replace table = []
+
+abbrev pub papers_after : List PaperRow → List ℕ → Made (List PaperRow)
+papers_after table body =
+    then_make (rows_of_file paper_row paper_columns 1500 body) (put_all paper_has_room put_paper (first_row_of paper_columns body) table)
+
+abbrev pub reviewers_after : List ReviewerRow → List ℕ → Made (List ReviewerRow)
+reviewers_after table body =
+    then_make (rows_of_file reviewer_row reviewer_columns 1500 body) (put_all reviewer_has_room put_reviewer (first_row_of reviewer_columns body) table)
+
+-- the scores that are merged into, or without the table of this source
+abbrev pub values_start : How → List ℕ → ScoresValue → ScoresValue
+values_start Merge source scores = scores
+values_start Replace source scores = without_values source scores
+
+abbrev pub values_after : List ℕ → ScoresValue → List ℕ → Made ScoresValue
+values_after source scores body =
+    then_make (rows_of_file value_row value_columns 250000 body) (put_all (value_has_room source) (put_value_row source) (first_row_of value_columns body) scores)
+
+abbrev pub bids_start : How → ScoresValue → ScoresValue
+bids_start Merge scores = scores
+bids_start Replace scores = without_bids scores
+
+abbrev pub bids_after : SettingsValue → ScoresValue → List ℕ → Made ScoresValue
+bids_after settings scores body =
+    then_make (rows_of_file (bid_row settings.spec.words) bid_columns 250000 body) (put_all bid_has_room put_bid_row (first_row_of bid_columns body) scores)
+
+abbrev pub marks_after : PairsValue ℤ → List ℕ → Made (PairsValue ℤ)
+marks_after table body =
+    then_make (rows_of_file mark_row mark_columns 250000 body) (put_all mark_has_room put_mark_row (first_row_of mark_columns body) table)
+
+abbrev pub caps_after : PairsValue ℤ → List ℕ → Made (PairsValue ℤ)
+caps_after table body =
+    then_make (rows_of_file cap_row cap_columns 250000 body) (put_all cap_has_room put_cap_row (first_row_of cap_columns body) table)
+
+abbrev pub settings_after : VenueValue → Result SettingsValue Code → Made VenueValue
+settings_after venue (Ok settings) = Ok (with_settings venue settings)
+settings_after venue (Err code) = Err (0, code)
+
+-- the venue after a body for one of its tables; the source of values is tested before the body is read
+unfoldable pub venue_after : VenueValue → TableName → How → List ℕ → Made VenueValue
+venue_after venue Settings how body = settings_after venue (settings_of_file body)
+venue_after venue Papers how body =
+    then_make (papers_after (start_of how venue.papers) body) (λ papers. Ok (record venue { papers = papers }))
+venue_after venue Reviewers how body =
+    then_make (reviewers_after (start_of how venue.reviewers) body) (λ reviewers. Ok (record venue { reviewers = reviewers }))
+venue_after venue (Values source) how body =
+    if is_values_source venue.settings source
+    then then_make (values_after source (values_start how source venue.scores) body) (λ scores. Ok (record venue { scores = scores }))
+    else Err (0, UnknownSource)
+venue_after venue Bids how body =
+    then_make (bids_after venue.settings (bids_start how venue.scores) body) (λ scores. Ok (record venue { scores = scores }))
+venue_after venue Marks how body =
+    then_make (marks_after (start_of how venue.marks) body) (λ marks. Ok (record venue { marks = marks }))
+venue_after venue Caps how body =
+    then_make (caps_after (start_of how venue.caps) body) (λ caps. Ok (record venue { caps = caps }))

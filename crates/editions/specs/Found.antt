@@ -1,0 +1,28 @@
+-- Candidate pairs as they are found.
+use Rattle.std.specs.Prelude.{◌≡◌, ℕ, ◌≤◌, ◌⊎◌, if◌then◌else◌, List, [], ◌∷◌, length, All, pos, neg_ℤ, ◌≤ℤ◌}
+use Rattle.match_rules.specs.declared.rules.RulePair.{RulePair}
+use Rattle.match_rules.specs.declared.rules.TheConstants.{MOST_TICKETS}
+use Rattle.match_rules.specs.Rules.{most_score}
+use Rattle.roster.specs.declared.rows.PaperRow.{PaperRow}
+use Rattle.roster.specs.declared.rows.ReviewerRow.{ReviewerRow}
+use Rattle.editions.specs.declared.candidates.Found.{Found}
+use Rattle.editions.specs.Candidates.{is_candidate, pair_of}
+use Rattle.editions.specs.Venues.{VenueValue}
+
+-- the score and the tickets of a pair are within the limits of rules
+pub record IsWithin (pair : RulePair) : Type 0 where
+  pub low : neg_ℤ (pos most_score) ≤ℤ pair.score
+  pub high : pair.score ≤ℤ pos most_score
+  pub whole : (pair.floor ≡ 0) ⊎ (pair.floor ≡ MOST_TICKETS)
+  pub ordered : pair.floor ≤ pair.cap
+  pub within : pair.cap ≤ MOST_TICKETS
+
+-- these pairs were found: all are counted, and kept while they aren't too many
+pub record AreFound (found : Found) (pairs : List RulePair) : Type 0 where
+  pub counted : found.count ≡ length pairs
+  pub kept : length pairs ≤ 250000 → found.pairs.items ≡ pairs
+  pub within : All IsWithin found.pairs.items
+
+-- the pair at these places, where it is a candidate
+abbrev pub candidate_at : VenueValue → ℕ → PaperRow → ℕ → ReviewerRow → List RulePair
+candidate_at venue i paper j reviewer = if is_candidate venue paper reviewer then pair_of venue i paper j reviewer ∷ [] else []

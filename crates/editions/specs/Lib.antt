@@ -1,0 +1,11 @@
+pub mod Venues
+pub mod Candidates
+pub mod Cells
+pub mod Found
+pub mod Parts
+pub mod VenueRules
+pub mod Puts
+pub mod Edits
+pub mod Answers
+pub mod Loads
+pub mod Examples

@@ -1,0 +1,116 @@
+-- The venue of a folder: its files as edits, in their order.
+use Rattle.std.specs.Prelude.{◌≡◌, ℕ, nat_lt, Bool, true, false, if◌then◌else◌, List, [], ◌∷◌, ◌++◌, length, map, filter, codes, Option, Some, None, Result, Ok, Err, ⊤, ◌≤◌, IsSome, IsErrOf}
+use Rattle.match_rules.specs.Rules.{RulesValue}
+use Rattle.score_spec.specs.Scores.{is_values}
+use Rattle.score_spec.specs.Sources.{SourceValue}
+use Rattle.bid_import.specs.declared.fault.Code.{Code}
+use Rattle.bid_import.specs.declared.fault.Code.TheVariants.{Missing, TooLong}
+use Rattle.edge_io.specs.FileValues.{FileValue}
+use Rattle.edge_io.specs.Counts.{Rose}
+use Rattle.edge_io.specs.Files.{file_named, told_files}
+use Rattle.edge_io.specs.declared.folder.TheConstants.{MOST_FILE_BYTES}
+use Rattle.editions.specs.declared.edit.How.TheVariants.{Replace}
+use Rattle.editions.specs.declared.edit.TableName.{TableName}
+use Rattle.editions.specs.declared.edit.TableName.TheVariants.{Settings, Papers, Reviewers, Values, Bids, Marks, Caps}
+use Rattle.editions.specs.declared.fault.LimitFault.{LimitFault}
+use Rattle.editions.specs.declared.fault.LoadFault.{LoadFault}
+use Rattle.editions.specs.declared.fault.LoadFault.TheVariants.{Memory, Folder, Bad, Limit}
+use Rattle.editions.specs.declared.venue.Edited.{Edited}
+use Rattle.editions.specs.Edits.{Made, venue_after}
+use Rattle.editions.specs.VenueRules.{rules_of}
+use Rattle.editions.specs.Venues.{VenueValue, empty_venue}
+
+-- the file of a table
+abbrev pub file_of : TableName → List ℕ
+file_of Settings = codes "settings.toml"
+file_of Papers = codes "papers.csv"
+file_of Reviewers = codes "reviewers.csv"
+file_of (Values source) = codes "values-" ++ (source ++ codes ".csv")
+file_of Bids = codes "bids.csv"
+file_of Marks = codes "marks.csv"
+file_of Caps = codes "caps.csv"
+
+-- papers and reviewers have to be there; any other file that isn't is empty
+abbrev pub has_to_be_there : TableName → Bool
+has_to_be_there Settings = false
+has_to_be_there Papers = true
+has_to_be_there Reviewers = true
+has_to_be_there (Values source) = false
+has_to_be_there Bids = false
+has_to_be_there Marks = false
+has_to_be_there Caps = false
+
+-- a venue, or the file at fault, with the row and the code
+abbrev pub Loaded : Type 0
+Loaded = Result VenueValue (List ℕ × ℕ × Code)
+
+abbrev pub in_file : List ℕ → Made VenueValue → Loaded
+in_file file (Ok venue) = Ok venue
+in_file file (Err fault) = Err (file, fault.0, fault.1)
+
+-- the venue after a file, which empties the table first
+abbrev pub after_bytes : VenueValue → TableName → List ℕ → Loaded
+after_bytes venue table bytes =
+    if nat_lt MOST_FILE_BYTES (length bytes) then Err (file_of table, 0, TooLong) else in_file (file_of table) (venue_after venue table Replace bytes)
+
+abbrev pub after_file : VenueValue → TableName → Option (List ℕ) → Loaded
+after_file venue table None = if has_to_be_there table then Err (file_of table, 0, Missing) else Ok venue
+after_file venue table (Some bytes) = after_bytes venue table bytes
+
+abbrev pub then_load : Loaded → (VenueValue → Loaded) → Loaded
+then_load (Ok venue) more = more venue
+then_load (Err fault) more = Err fault
+
+-- the files of these tables, one after the other
+abbrev pub after_files : List FileValue → List TableName → VenueValue → Loaded
+after_files files [] venue = Ok venue
+after_files files (table ∷ tables) venue = then_load (after_file venue table (file_named files (file_of table))) (after_files files tables)
+
+abbrev pub values_table : SourceValue → TableName
+values_table source = Values source.name
+
+-- the tables beside the settings, in the order in which they are read
+abbrev pub tables_of : VenueValue → List TableName
+tables_of venue = Papers ∷ Reviewers ∷ (map values_table (filter (λ source. is_values source.kind) venue.settings.spec.sources) ++ (Bids ∷ Marks ∷ Caps ∷ []))
+
+-- the venue of a folder with these files
+unfoldable pub venue_in : List FileValue → Loaded
+venue_in files = then_load (after_files files (Settings ∷ []) empty_venue) (λ venue. after_files files (tables_of venue) venue)
+
+-- the answer has the venue, or the file at fault, with the row and the code; or the folder failed or memory was wanting
+abbrev pub Loads : Result VenueValue LoadFault → Loaded → Type 0
+Loads (Ok venue) loaded = loaded ≡ Ok venue
+Loads (Err Memory) loaded = ⊤
+Loads (Err Folder) loaded = ⊤
+Loads (Err (Bad file row code)) loaded = loaded ≡ Err (file, row, code)
+Loads (Err (Limit fault)) loaded = ⊥
+
+-- reading changes no file, and gives what the files say where they are told after it
+pub record ReadsFiles (old new : Option (List FileValue)) (Answers : List FileValue → Type 0) : Type 0 where
+  pub untold : IsSome new → IsSome old
+  pub same : IsSome new → told_files new ≡ told_files old
+  pub answer : IsSome new → Answers (told_files old)
+
+-- the count never falls, and `Folder` comes only where it rose
+pub record LoadFails {T : Type 0} (before now : ℕ) (result : Result T LoadFault) : Type 0 where
+  pub later : before ≤ now
+  pub failed : IsErrOf result Folder → Rose before now
+
+-- the venue that was loaded, with its rules
+pub record IsLoaded (edited : Edited) (loaded : Loaded) : Type 0 where
+  pub venue : loaded ≡ Ok edited.venue
+  pub rules : rules_of edited.venue ≡ Ok edited.rules
+
+-- a venue was loaded, whose rules pass a limit
+pub record IsTooMuch (fault : LimitFault) (loaded : Loaded) : Type 0 where
+  pub venue : VenueValue
+  pub loaded_so : loaded ≡ Ok venue
+  pub limited : rules_of venue ≡ Err fault
+
+-- the venue with its rules, the first fault in the order of reading, or the limit; or the folder failed or memory was wanting
+abbrev pub IsLoadAnswer : Result Edited LoadFault → Loaded → Type 0
+IsLoadAnswer (Ok edited) loaded = IsLoaded edited loaded
+IsLoadAnswer (Err Memory) loaded = ⊤
+IsLoadAnswer (Err Folder) loaded = ⊤
+IsLoadAnswer (Err (Bad file row code)) loaded = loaded ≡ Err (file, row, code)
+IsLoadAnswer (Err (Limit fault)) loaded = IsTooMuch fault loaded

@@ -1,0 +1,180 @@
+// The candidate pairs of a venue.
+
+ghost use Rattle.std.specs.Prelude.{◌≡◌, ◌<◌, ◌≤◌, ◌+◌, ◌*◌, ◌^◌, ◌++◌, ◌∷◌, [], List, length, map, if◌then◌else◌, IfOk, OnOk};
+ghost use Rattle.editions.specs.Candidates.{is_candidate, pair_of, pairs_of_paper, candidates, tickets_of};
+ghost use Rattle.editions.specs.Cells.{cell_of};
+ghost use Rattle.editions.specs.Found.{AreFound, IsWithin, candidate_at};
+ghost use Rattle.editions.specs.Venues.{IsCap, KeepsLimits, cap_of};
+ghost use Rattle.match_rules.specs.declared.rules.RulePair.{RulePair};
+
+use crate::cells::{Cell, cells_of};
+use crate::conflict::do_share;
+use crate::tables::Tables;
+use match_rules::{MOST_TICKETS, RulePair};
+use roster::{PaperRow, ReviewerRow};
+use score_spec::{Value, score};
+use std::alloc::{AllocError, Global};
+
+pub(crate) const MOST_PAIRS: u64 = 250_000;
+
+/// How many pairs were found, and the first 250,000 of them.
+#[derive(Drop)]
+pub(crate) struct Found {
+    pub count: u64,
+    pub pairs: Vec<RulePair>,
+}
+
+fn is_candidate(tables: &Tables, paper: &PaperRow, reviewer: &ReviewerRow, cell: Cell) -> bool
+    requires { cell ≡ cell_of tables.now paper.now reviewer.now }
+    ensures { result ≡ is_candidate tables.now paper.now reviewer.now }
+{
+    let is_listed = tables.settings.all_pairs() || cell.listed || cell.mark == 1;
+    is_listed && cell.mark != -1 && !do_share(paper, reviewer)
+}
+
+fn cap_of(tables: &Tables, paper: &PaperRow, reviewer: &ReviewerRow) -> Value
+    requires { KeepsLimits tables.now }
+    ensures same { result ≡ cap_of tables.now paper.now.id reviewer.now.id }
+    ensures within { IsCap result }
+{
+    match tables.caps.get(paper.id.text(), reviewer.id.text()) {
+        Some(cap) => *cap,
+        None => tables.settings.cap(),
+    }
+}
+
+fn tickets_of(tables: &Tables, paper: &PaperRow, reviewer: &ReviewerRow) -> u32
+    requires { KeepsLimits tables.now }
+    ensures same { result ≡ tickets_of (cap_of tables.now paper.now.id reviewer.now.id) }
+    ensures within { result ≤ 10000 }
+{
+    let cap = cap_of(tables, paper, reviewer);
+    cap.tenthousandths() as u32
+}
+
+fn pair_of(
+    tables: &Tables,
+    paper_place: u32,
+    paper: &PaperRow,
+    reviewer_place: u32,
+    reviewer: &ReviewerRow,
+    cell: Cell,
+) -> RulePair
+    requires cell { cell ≡ cell_of tables.now paper.now reviewer.now }
+    requires limits { KeepsLimits tables.now }
+    ensures same { result ≡ pair_of tables.now paper_place paper.now reviewer_place reviewer.now }
+    ensures within { IsWithin result }
+{
+    let score = score(
+        tables.settings.spec(),
+        tables.scores,
+        paper.id.text(),
+        reviewer.id.text(),
+    );
+    if cell.mark == 1 {
+        return RulePair {
+            paper: paper_place,
+            reviewer: reviewer_place,
+            score,
+            floor: MOST_TICKETS,
+            cap: MOST_TICKETS,
+        };
+    }
+    RulePair {
+        paper: paper_place,
+        reviewer: reviewer_place,
+        score,
+        floor: 0,
+        cap: tickets_of(tables, paper, reviewer),
+    }
+}
+
+fn add_pair(
+    found: &mut Found,
+    tables: &Tables,
+    paper_place: u32,
+    paper: &PaperRow,
+    reviewer_place: u32,
+    reviewer: &ReviewerRow,
+    cell: Cell,
+) -> Result<(), AllocError>
+    requires cell { cell ≡ cell_of tables.now paper.now reviewer.now }
+    requires limits { KeepsLimits tables.now }
+    requires room { found.old.count < 2 ^ 32 }
+    ensures count { OnOk result (found.new.count ≡ found.old.count + 1) }
+    ensures found { OnOk result ((pairs : List RulePair) → AreFound found.old pairs → AreFound found.new (pairs ++ pair_of tables.now paper_place paper.now reviewer_place reviewer.now ∷ [])) }
+{
+    found.count += 1;
+    if found.count > MOST_PAIRS {
+        return Ok(());
+    }
+    let pair = pair_of(tables, paper_place, paper, reviewer_place, reviewer, cell);
+    found.pairs.push(pair)?;
+    Ok(())
+}
+
+// Adds the pair, if it is a candidate.
+fn add_candidate(
+    found: &mut Found,
+    tables: &Tables,
+    paper_place: u32,
+    paper: &PaperRow,
+    reviewer_place: u32,
+    reviewer: &ReviewerRow,
+    cell: Cell,
+) -> Result<(), AllocError>
+    requires cell { cell ≡ cell_of tables.now paper.now reviewer.now }
+    requires limits { KeepsLimits tables.now }
+    requires room { found.old.count < 2 ^ 32 }
+    ensures count { OnOk result (found.new.count ≤ found.old.count + 1) }
+    ensures found { OnOk result ((pairs : List RulePair) → AreFound found.old pairs → AreFound found.new (pairs ++ candidate_at tables.now paper_place paper.now reviewer_place reviewer.now)) }
+{
+    if !is_candidate(tables, paper, reviewer, cell) {
+        return Ok(());
+    }
+    add_pair(
+        found,
+        tables,
+        paper_place,
+        paper,
+        reviewer_place,
+        reviewer,
+        cell,
+    )
+}
+
+// Adds the candidates of a paper.
+fn add_paper(
+    found: &mut Found,
+    tables: &Tables,
+    place: u32,
+    paper: &PaperRow,
+    cells: &[Cell],
+) -> Result<(), AllocError>
+    requires cells { cells.now ≡ map (cell_of tables.now paper.now) tables.now.reviewers }
+    requires limits { KeepsLimits tables.now }
+    requires room { found.old.count ≤ 1500 * 1500 }
+    ensures count { OnOk result (found.new.count ≤ found.old.count + 1500) }
+    ensures found { OnOk result ((pairs : List RulePair) → AreFound found.old pairs → AreFound found.new (pairs ++ pairs_of_paper tables.now place paper.now 0 tables.now.reviewers)) }
+{
+    for (j, reviewer) in tables.reviewers.rows().iter().enumerate() {
+        add_candidate(found, tables, place, paper, j as u32, reviewer, cells[j])?;
+    }
+    Ok(())
+}
+
+/// The candidate pairs of a venue, by paper and then reviewer.
+pub(crate) fn candidates(alloc: Global, tables: &Tables) -> Result<Found, AllocError>
+    requires { KeepsLimits tables.now }
+    ensures { IfOk result (λ found. AreFound found (candidates tables.now)) }
+{
+    let mut found = Found {
+        count: 0,
+        pairs: Vec::new(alloc),
+    };
+    for (i, paper) in tables.papers.rows().iter().enumerate() {
+        let cells = cells_of(alloc, tables, paper)?;
+        add_paper(&mut found, tables, i as u32, paper, cells.as_slice())?;
+    }
+    Ok(found)
+}

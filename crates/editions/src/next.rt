@@ -1,0 +1,209 @@
+// The venue after an edit: one of its tables is put anew, and all else stays.
+
+ghost use Rattle.std.specs.Prelude.{◌≡◌, ◌&&◌};
+ghost use Rattle.editions.specs.Answers.{IsEditAnswer};
+ghost use Rattle.editions.specs.Edits.{Makes, start_of, values_start, bids_start, settings_after, venue_after};
+ghost use Rattle.std.specs.Ordering.{is_eq};
+ghost use Rattle.bid_import.specs.Settings.{settings_of_file};
+ghost use Rattle.editions.specs.Venues.{with_settings};
+ghost use Rattle.roster.specs.Table.{id_cmp};
+ghost use Rattle.score_spec.specs.Scores.{has_values, is_values};
+ghost use Rattle.editions.specs.declared.edit.TableName.TheVariants as table;
+
+use crate::edit::{Edit, How, TableName};
+use crate::fault::EditFault;
+use crate::puts::{
+    bids_after, caps_after, marks_after, papers_after, reviewers_after, values_after,
+};
+use crate::venue::{Edited, Venue};
+use bid_import::{Code, ImportFault, Settings, read_settings};
+use roster::{Row, Table};
+use score_spec::{Kind, PairTable, Scores, SourceSpec, Text};
+use std::alloc::Global;
+
+fn start_of_rows<R: Row>(alloc: Global, how: How, rows: Table<R>) -> Table<R>
+    ensures { result ≡ start_of how rows }
+{
+    match how {
+        How::Merge => rows,
+        How::Replace => Table::new(alloc),
+    }
+}
+
+fn start_of_pairs<V: Drop>(alloc: Global, how: How, pairs: PairTable<V>) -> PairTable<V>
+    ensures { result ≡ start_of how pairs }
+{
+    match how {
+        How::Merge => pairs,
+        How::Replace => PairTable::new(alloc),
+    }
+}
+
+fn start_of_values(how: How, source: &str, mut scores: Scores) -> Scores
+    ensures { result ≡ values_start how source.now scores }
+{
+    if how == How::Merge {
+        return scores;
+    }
+    scores.clear_values(source);
+    scores
+}
+
+fn start_of_bids(how: How, mut scores: Scores) -> Scores
+    ensures { result ≡ bids_start how scores }
+{
+    if how == How::Merge {
+        return scores;
+    }
+    scores.clear_bids();
+    scores
+}
+
+// Whether the source is one of values and has this name.
+fn is_values_of(source: &SourceSpec, name: &str) -> bool
+    ensures { result ≡ is_values source.now.kind && is_eq (id_cmp source.now.name name.now) }
+{
+    source.kind() == Kind::Values && source.name().cmp(name).is_eq()
+}
+
+fn has_values(sources: &[SourceSpec], name: &str) -> bool
+    ensures { result ≡ has_values sources.now name.now }
+{
+    sources.iter().any(|source| is_values_of(source, name))
+}
+
+fn after_papers(alloc: Global, venue: Venue, how: How, body: &[u8]) -> Result<Venue, ImportFault>
+    ensures { Makes result (venue_after venue table.Papers how body.now) }
+{
+    let start = start_of_rows(alloc, how, venue.papers);
+    match papers_after(alloc, start, body) {
+        Ok(papers) => Ok(Venue { papers, ..venue }),
+        Err(fault) => Err(fault),
+    }
+}
+
+fn after_reviewers(alloc: Global, venue: Venue, how: How, body: &[u8]) -> Result<Venue, ImportFault>
+    ensures { Makes result (venue_after venue table.Reviewers how body.now) }
+{
+    let start = start_of_rows(alloc, how, venue.reviewers);
+    match reviewers_after(alloc, start, body) {
+        Ok(reviewers) => Ok(Venue { reviewers, ..venue }),
+        Err(fault) => Err(fault),
+    }
+}
+
+fn after_values(
+    alloc: Global,
+    venue: Venue,
+    source: &Text,
+    how: How,
+    body: &[u8],
+) -> Result<Venue, ImportFault>
+    ensures { Makes result (venue_after venue (table.Values source.now) how body.now) }
+{
+    if !has_values(venue.settings.spec().sources.as_slice(), source.as_str()) {
+        return Err(ImportFault::Bad {
+            row: 0,
+            code: Code::UnknownSource,
+        });
+    }
+    let start = start_of_values(how, source.as_str(), venue.scores);
+    match values_after(alloc, source.as_str(), start, body) {
+        Ok(scores) => Ok(Venue { scores, ..venue }),
+        Err(fault) => Err(fault),
+    }
+}
+
+fn after_bids(alloc: Global, venue: Venue, how: How, body: &[u8]) -> Result<Venue, ImportFault>
+    ensures { Makes result (venue_after venue table.Bids how body.now) }
+{
+    let start = start_of_bids(how, venue.scores);
+    match bids_after(alloc, &venue.settings, start, body) {
+        Ok(scores) => Ok(Venue { scores, ..venue }),
+        Err(fault) => Err(fault),
+    }
+}
+
+fn after_marks(alloc: Global, venue: Venue, how: How, body: &[u8]) -> Result<Venue, ImportFault>
+    ensures { Makes result (venue_after venue table.Marks how body.now) }
+{
+    let start = start_of_pairs(alloc, how, venue.marks);
+    match marks_after(alloc, start, body) {
+        Ok(marks) => Ok(Venue { marks, ..venue }),
+        Err(fault) => Err(fault),
+    }
+}
+
+fn after_caps(alloc: Global, venue: Venue, how: How, body: &[u8]) -> Result<Venue, ImportFault>
+    ensures { Makes result (venue_after venue table.Caps how body.now) }
+{
+    let start = start_of_pairs(alloc, how, venue.caps);
+    match caps_after(alloc, start, body) {
+        Ok(caps) => Ok(Venue { caps, ..venue }),
+        Err(fault) => Err(fault),
+    }
+}
+
+fn with_settings(venue: Venue, settings: Settings) -> Venue
+    ensures { result ≡ with_settings venue settings }
+{
+    let mut scores = venue.scores;
+    scores.keep_sources(settings.spec());
+    Venue {
+        settings,
+        scores,
+        ..venue
+    }
+}
+
+fn after_settings(alloc: Global, venue: Venue, body: &[u8]) -> Result<Venue, ImportFault>
+    ensures { Makes result (settings_after venue (settings_of_file body.now)) }
+{
+    match read_settings(alloc, body) {
+        Ok(settings) => Ok(with_settings(venue, settings)),
+        Err(fault) => Err(fault),
+    }
+}
+
+/// The venue after a body for one of its tables, or the row at fault. Settings are replaced, whatever `how` says.
+pub(crate) fn after(
+    alloc: Global,
+    venue: Venue,
+    table: &TableName,
+    how: How,
+    body: &[u8],
+) -> Result<Venue, ImportFault>
+    ensures { Makes result (venue_after venue table.now how body.now) }
+{
+    match table {
+        TableName::Settings => after_settings(alloc, venue, body),
+        TableName::Papers => after_papers(alloc, venue, how, body),
+        TableName::Reviewers => after_reviewers(alloc, venue, how, body),
+        TableName::Values { source } => after_values(alloc, venue, source, how, body),
+        TableName::Bids => after_bids(alloc, venue, how, body),
+        TableName::Marks => after_marks(alloc, venue, how, body),
+        TableName::Caps => after_caps(alloc, venue, how, body),
+    }
+}
+
+impl Venue {
+    /// The venue after an edit, with its rules. A refusal leaves this one as it is.
+    pub fn next(&self, alloc: Global, edit: &Edit) -> Result<Edited, EditFault>
+        requires settings { edit.now.table ≡ TableName.Settings → edit.now.how ≡ How.Replace }
+        ensures answer { IsEditAnswer result (venue_after self.now edit.now.table edit.now.how edit.now.body) }
+    {
+        let copy = match self.copy(alloc) {
+            Ok(copy) => copy,
+            Err(_) => return Err(EditFault::Memory),
+        };
+        let venue = match after(alloc, copy, &edit.table, edit.how, edit.body.as_slice()) {
+            Ok(venue) => venue,
+            Err(ImportFault::Memory) => return Err(EditFault::Memory),
+            Err(ImportFault::Bad { row, code }) => return Err(EditFault::Import { row, code }),
+        };
+        match venue.rules(alloc) {
+            Ok(rules) => Ok(Edited { venue, rules }),
+            Err(fault) => Err(fault),
+        }
+    }
+}
