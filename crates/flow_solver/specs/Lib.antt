@@ -1,3 +1,4 @@
+pub mod Coarse
 pub mod Links
 pub mod Queue
 pub mod Search

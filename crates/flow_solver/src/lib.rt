@@ -11,7 +11,10 @@
 // search. What is proved says nothing of the number of steps.
 #![tactic(auto)]
 
+mod begin;
 mod blank;
+mod coarse;
+mod drain;
 mod guess;
 mod links;
 mod queue;

@@ -6,13 +6,10 @@ ghost use Rattle.flow_solver.specs.Links.{AreLinks};
 ghost use Rattle.flow_solver.specs.State.{IsWithin, IsState, AreCalm, AreBounded, excess_at};
 ghost use Rattle.flow_solver.specs.Solution.{IfSolved, IfUnsat};
 
-use crate::blank::{blank, clear, set_out};
-use crate::guess::first_potentials;
-use crate::links::{Links, links_of};
-use crate::search::{Search, run};
-use crate::start::start_at;
-use crate::state::State;
-use crate::way::augment;
+use crate::begin::begin;
+use crate::blank::blank;
+use crate::drain::drain;
+use crate::links::links_of;
 use bounded_network::Network;
 use std::alloc::{AllocError, Global};
 
@@ -28,40 +25,6 @@ pub enum Solution {
     Unsat {
         marks: Vec<bool>,
     },
-}
-
-// Carries away what the source has too much, and is `false` where the settled nodes can't get rid of it.
-fn drain(
-    net: &Network,
-    links: &Links,
-    state: &mut State,
-    search: &mut Search,
-    source: u32,
-) -> Result<bool, AllocError>
-    requires kept { IsState net.now state.old.flow.items state.old.excess.items state.old.potentials.items }
-    requires calm { AreCalm net.now state.old.excess.items state.old.potentials.items }
-    requires links { AreLinks net.now links.now }
-    requires blank { IsBlank net.now search.old }
-    requires source_in { source < net.now.nodes }
-    ensures kept { IsState net.now state.new.flow.items state.new.excess.items state.new.potentials.items }
-    ensures calm { AreCalm net.now state.new.excess.items state.new.potentials.items }
-    ensures others { (v : ℕ) → excess_at state.old.excess.items v ≤ℤ pos 0 → excess_at state.new.excess.items v ≤ℤ pos 0 }
-    ensures blank { IfOk result (λ drained. OnTrue drained (IsBlank net.now search.new)) }
-    ensures drained { IfOk result (λ drained. OnTrue drained (excess_at state.new.excess.items source ≤ℤ pos 0)) }
-    ensures violated { IfOk result (λ drained. OnFalse drained (AreViolated net.now search.new.settled.items)) }
-    ensures long { IfOk result (λ drained. OnFalse drained (length search.new.settled.items ≡ net.now.nodes)) }
-{
-    let _nodes = net.nodes();
-    'draining: while state.excess[source as usize] > 0 {
-        set_out(net, state, search, source)?;
-        let found = run(net, links, state, search)?;
-        if !found {
-            return Ok(false);
-        }
-        augment(net, state, search);
-        clear(net, search);
-    }
-    Ok(true)
 }
 
 /// A circulation of least cost with the potentials that prove it, or marks that prove that there is none.
@@ -83,8 +46,7 @@ pub fn solve(alloc: Global, net: &Network) -> Result<Solution, AllocError>
 {
     let links = links_of(alloc, net)?;
     let _nodes = net.nodes();
-    let potentials = first_potentials(alloc, net)?;
-    let mut state = start_at(alloc, net, potentials)?;
+    let mut state = begin(alloc, net, &links)?;
     let mut search = blank(alloc, net)?;
     for source in 0..net.nodes() {
         let drained = drain(net, &links, &mut state, &mut search, source)?;
