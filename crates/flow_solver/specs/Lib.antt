@@ -2,6 +2,7 @@ pub mod Coarse
 pub mod Links
 pub mod Queue
 pub mod Search
+pub mod Sides
 pub mod Solution
 pub mod State
 pub mod Step

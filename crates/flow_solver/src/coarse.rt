@@ -3,18 +3,20 @@
 // Excesses are sent over arcs with a negative reduced cost, and a node that has no such arc falls by a slack more than it
 // must to have one (Goldberg and Tarjan 1990). The slack shrinks from phase to phase. Only the potentials are kept, and any
 // are right to start from, so that nothing is proved of the amounts: those that would be too large stop at their bounds.
-ghost use Rattle.std.specs.Prelude.{◌≡◌, ◌<◌, ◌≤◌, ◌⊎◌, length, ℕ, ℤ, pos, negsuc, ◌≤ℤ◌, ◌-ℤ◌, IfOk, OnOk, slice_index, All};
+ghost use Rattle.std.specs.Prelude.{◌≡◌, ◌+◌, ◌<◌, ◌≤◌, ◌⊎◌, length, ℕ, ℤ, pos, negsuc, ◌≤ℤ◌, ◌-ℤ◌, IfOk, OnOk, slice_index, All};
 ghost use Rattle.bounded_network.specs.Network.{IsArc, IsNetwork, arc_at, potential_at};
-ghost use Rattle.flow_solver.specs.Coarse.{IsCoarse, IsNext};
+ghost use Rattle.flow_solver.specs.Coarse.{IsCoarse};
 ghost use Rattle.flow_solver.specs.Links.{AreLinks};
+ghost use Rattle.flow_solver.specs.Sides.{IsSide, AreSides};
 ghost use Rattle.flow_solver.specs.State.{IsWithin};
 
 use crate::guess::first_potentials;
-use crate::links::{Links, bound_before, last_bound};
+use crate::links::Links;
 use crate::search::width_of;
+use crate::sides::{Side, Sides, side_of, sides_of};
 use crate::start::start_at;
-use crate::step::{arc_count, arc_of, cost, end};
-use bounded_network::{Arc, MAX_COST, Network};
+use crate::step::{arc_count, arc_of};
+use bounded_network::{MAX_COST, Network};
 use std::alloc::{AllocError, Global};
 
 // How many phases there are, and how far the slack shrinks in each.
@@ -25,15 +27,22 @@ const SHRINKING: i64 = 8;
 // How many turns a phase has for each node and arc. Where there is no circulation, it would never end by itself.
 const TURNS: u64 = 64;
 
-/// The amounts, excesses and potentials of a phase, at each node the bound of the next arc to send over, as in `Links`, and
+// How much more an arc takes forward, and how much back.
+#[derive(Clone, Copy)]
+pub struct Left {
+    ahead: u64,
+    back: u64,
+}
+
+/// What is left for each arc, the excesses and potentials of a phase, for each node the next of its sides to send over, and
 /// the nodes that have an excess.
 #[derive(Drop)]
 pub struct Coarse {
     slack: i64,
-    flow: Vec<u64>,
+    left: Vec<Left>,
     excess: Vec<i128>,
     potentials: Vec<i64>,
-    next: Vec<u32>,
+    next: Vec<usize>,
     active: Vec<u32>,
 }
 
@@ -61,25 +70,42 @@ fn rich_nodes(alloc: Global, net: &Network, excess: &[i128]) -> Result<Vec<u32>,
     Ok(nodes)
 }
 
+// What is left for each arc at the amounts.
+fn lefts_of(alloc: Global, net: &Network, flow: &[u64]) -> Result<Vec<Left>, AllocError>
+    requires { length flow.now ≡ length net.now.arcs }
+    ensures { IfOk result (λ left. length left.items ≡ length net.now.arcs) }
+{
+    let mut left = Vec::with_capacity(alloc, flow.len())?;
+    for place in 0..arc_count(net) {
+        let arc = arc_of(net, place);
+        left.push(Left {
+            ahead: arc.room.saturating_sub(flow[place as usize]),
+            back: flow[place as usize].saturating_sub(arc.floor),
+        })?;
+    }
+    Ok(left)
+}
+
 // A phase at its start.
 fn phase_at(
     alloc: Global,
     net: &Network,
-    links: &Links,
+    sides: &Sides,
     potentials: Vec<i64>,
     slack: i64,
 ) -> Result<Coarse, AllocError>
-    requires links { AreLinks net.now links.now }
+    requires sides { AreSides net.now sides.now }
     requires long { length potentials.items ≡ net.now.nodes }
     requires small { (v : ℕ) → IsWithin 8000000000 (potential_at potentials.items v) }
     ensures { IfOk result (λ coarse. IsCoarse net.now coarse) }
 {
     let state = start_at(alloc, net, potentials)?;
+    let left = lefts_of(alloc, net, &state.flow)?;
     let active = rich_nodes(alloc, net, &state.excess)?;
-    let next = links.last.as_slice().to_vec(alloc)?;
+    let next = sides.starts.as_slice().to_vec(alloc)?;
     Ok(Coarse {
         slack,
-        flow: state.flow,
+        left,
         excess: state.excess,
         potentials: state.potentials,
         next,
@@ -88,20 +114,22 @@ fn phase_at(
 }
 
 // How much more the arc takes forward, or back.
-fn room_on(arc: Arc, had: u64, forward: bool) -> u64 {
-    if forward {
-        arc.room.saturating_sub(had)
-    } else {
-        had.saturating_sub(arc.floor)
-    }
+fn room_in(left: Left, forward: bool) -> u64 {
+    if forward { left.ahead } else { left.back }
 }
 
-// What the arc has once the amount went forward, or back.
-fn moved(had: u64, forward: bool, amount: u64) -> u64 {
+// What is left once the amount went forward, or back.
+fn less_by(left: Left, forward: bool, amount: u64) -> Left {
     if forward {
-        had.saturating_add(amount)
+        Left {
+            ahead: left.ahead.saturating_sub(amount),
+            back: left.back.saturating_add(amount),
+        }
     } else {
-        had.saturating_sub(amount)
+        Left {
+            ahead: left.ahead.saturating_add(amount),
+            back: left.back.saturating_sub(amount),
+        }
     }
 }
 
@@ -142,49 +170,46 @@ fn give(
     Ok(())
 }
 
-// Sends as much of the node's excess over its arc as the arc takes, if that pays.
-fn send_over(net: &Network, coarse: &mut Coarse, node: u32, place: u32) -> Result<(), AllocError>
+// Sends as much of the node's excess over its side as the arc takes, if that pays.
+fn send_over(net: &Network, coarse: &mut Coarse, node: u32, side: Side) -> Result<(), AllocError>
     requires coarse { IsCoarse net.now coarse.old }
     requires node_in { node < net.now.nodes }
-    requires place_in { place < length net.now.arcs }
+    requires side { IsSide net.now side }
     ensures { OnOk result (IsCoarse net.now coarse.new) }
 {
-    let arc = arc_of(net, place);
-    let forward = arc.tail == node;
-    let to = end(arc, forward);
-    let had = coarse.flow[place as usize];
-    let left = room_on(arc, had, forward);
-    if left == 0 {
+    let left = coarse.left[side.arc as usize];
+    let room = room_in(left, side.forward);
+    if room == 0 {
         return Ok(());
     }
     let from_potential = coarse.potentials[node as usize];
-    let to_potential = coarse.potentials[to as usize];
-    if !pays(from_potential, to_potential, cost(arc, forward)) {
+    let to_potential = coarse.potentials[side.to as usize];
+    if !pays(from_potential, to_potential, side.cost) {
         return Ok(());
     }
-    let amount = amount_of(coarse.excess[node as usize]).min(left);
-    coarse.flow[place as usize] = moved(had, forward, amount);
-    give(net, coarse, node, to, amount)?;
+    let amount = amount_of(coarse.excess[node as usize]).min(room);
+    coarse.left[side.arc as usize] = less_by(left, side.forward, amount);
+    give(net, coarse, node, side.to, amount)?;
     Ok(())
 }
 
-// Sends the node's excess over its arcs from the next on, until it has none or the arcs are at their end.
-fn send(net: &Network, links: &Links, coarse: &mut Coarse, node: u32) -> Result<(), AllocError>
+// Sends the node's excess over its sides from the next on, until it has none or the sides are at their end.
+fn send(net: &Network, sides: &Sides, coarse: &mut Coarse, node: u32) -> Result<(), AllocError>
     requires coarse { IsCoarse net.now coarse.old }
-    requires links { AreLinks net.now links.now }
+    requires sides { AreSides net.now sides.now }
     requires node_in { node < net.now.nodes }
     ensures { OnOk result (IsCoarse net.now coarse.new) }
 {
-    let mut bound = coarse.next[node as usize];
-    while bound > 0 {
-        let place = bound - 1;
-        send_over(net, coarse, node, place)?;
+    let end = sides.starts[node as usize + 1];
+    let mut place = coarse.next[node as usize];
+    while place < end {
+        send_over(net, coarse, node, side_of(net, sides, place))?;
         if coarse.excess[node as usize] <= 0 {
             break;
         }
-        bound = bound_before(net, links, node, place);
+        place += 1;
     }
-    coarse.next[node as usize] = bound;
+    coarse.next[node as usize] = place;
     Ok(())
 }
 
@@ -199,38 +224,29 @@ fn better(best: i64, to: i64, cost: i64) -> i64
     if even > best { even } else { best }
 }
 
-// The greater of the best and the potential of the node at which its arc is even, if the arc takes more.
-fn better_over(net: &Network, coarse: &Coarse, node: u32, place: u32, best: i64) -> i64
+// The greater of the best and the potential at which the side is even, if its arc takes more.
+fn better_over(net: &Network, coarse: &Coarse, side: Side, best: i64) -> i64
     requires coarse { IsCoarse net.now coarse.now }
-    requires place_in { place < length net.now.arcs }
+    requires side { IsSide net.now side }
     requires best_small { IsWithin 16000000000 best }
     ensures { IsWithin 16000000000 result }
 {
-    let arc = arc_of(net, place);
-    let forward = arc.tail == node;
-    if room_on(arc, coarse.flow[place as usize], forward) == 0 {
+    if room_in(coarse.left[side.arc as usize], side.forward) == 0 {
         return best;
     }
-    better(
-        best,
-        coarse.potentials[end(arc, forward) as usize],
-        cost(arc, forward),
-    )
+    better(best, coarse.potentials[side.to as usize], side.cost)
 }
 
-// The greatest potential of the node at which one of its arcs that take more is even.
-fn best_of(net: &Network, links: &Links, coarse: &Coarse, node: u32) -> i64
+// The greatest potential of the node at which one of its sides with room is even.
+fn best_of(net: &Network, sides: &Sides, coarse: &Coarse, node: u32) -> i64
     requires coarse { IsCoarse net.now coarse.now }
-    requires links { AreLinks net.now links.now }
+    requires sides { AreSides net.now sides.now }
     requires node_in { node < net.now.nodes }
     ensures { IsWithin 16000000000 result }
 {
     let mut best = -2 * MAX_COST;
-    let mut bound = last_bound(net, links, node);
-    while bound > 0 {
-        let place = bound - 1;
-        best = better_over(net, coarse, node, place, best);
-        bound = bound_before(net, links, node, place);
+    for place in sides.starts[node as usize]..sides.starts[node as usize + 1] {
+        best = better_over(net, coarse, side_of(net, sides, place), best);
     }
     best
 }
@@ -259,51 +275,51 @@ fn lower(net: &Network, coarse: &mut Coarse, node: u32, value: i64)
     coarse.potentials[node as usize] = value;
 }
 
-// Makes the node active, with all its arcs to send over.
-fn reopen(net: &Network, links: &Links, coarse: &mut Coarse, node: u32) -> Result<(), AllocError>
+// Makes the node active, with all its sides to send over.
+fn reopen(net: &Network, sides: &Sides, coarse: &mut Coarse, node: u32) -> Result<(), AllocError>
     requires coarse { IsCoarse net.now coarse.old }
-    requires links { AreLinks net.now links.now }
+    requires sides { AreSides net.now sides.now }
     requires node_in { node < net.now.nodes }
     ensures { OnOk result (IsCoarse net.now coarse.new) }
 {
-    coarse.next[node as usize] = last_bound(net, links, node);
+    coarse.next[node as usize] = sides.starts[node as usize];
     coarse.active.push(node)?;
     Ok(())
 }
 
 // Lets the node fall until it has an arc that pays. Where it can't fall further, it keeps its excess.
-fn fall(net: &Network, links: &Links, coarse: &mut Coarse, node: u32) -> Result<(), AllocError>
+fn fall(net: &Network, sides: &Sides, coarse: &mut Coarse, node: u32) -> Result<(), AllocError>
     requires coarse { IsCoarse net.now coarse.old }
-    requires links { AreLinks net.now links.now }
+    requires sides { AreSides net.now sides.now }
     requires node_in { node < net.now.nodes }
     ensures { OnOk result (IsCoarse net.now coarse.new) }
 {
-    let value = fallen(best_of(net, links, coarse, node), coarse.slack);
+    let value = fallen(best_of(net, sides, coarse, node), coarse.slack);
     if value < coarse.potentials[node as usize] {
         lower(net, coarse, node, value);
-        reopen(net, links, coarse, node)?;
+        reopen(net, sides, coarse, node)?;
     }
     Ok(())
 }
 
 // Sends what the node has too much, and lets it fall where something is left.
-fn turn(net: &Network, links: &Links, coarse: &mut Coarse, node: u32) -> Result<(), AllocError>
+fn turn(net: &Network, sides: &Sides, coarse: &mut Coarse, node: u32) -> Result<(), AllocError>
     requires coarse { IsCoarse net.now coarse.old }
-    requires links { AreLinks net.now links.now }
+    requires sides { AreSides net.now sides.now }
     requires node_in { node < net.now.nodes }
     ensures { OnOk result (IsCoarse net.now coarse.new) }
 {
-    send(net, links, coarse, node)?;
+    send(net, sides, coarse, node)?;
     if coarse.excess[node as usize] > 0 {
-        fall(net, links, coarse, node)?;
+        fall(net, sides, coarse, node)?;
     }
     Ok(())
 }
 
 // Gives turns to the active nodes, the latest first, until there are none or the turns are used up.
-fn take_turns(net: &Network, links: &Links, coarse: &mut Coarse) -> Result<(), AllocError>
+fn take_turns(net: &Network, sides: &Sides, coarse: &mut Coarse) -> Result<(), AllocError>
     requires coarse { IsCoarse net.now coarse.old }
-    requires links { AreLinks net.now links.now }
+    requires sides { AreSides net.now sides.now }
     ensures { OnOk result (IsCoarse net.now coarse.new) }
 {
     let items = u64::from(net.nodes()) + net.arcs().len() as u64;
@@ -311,7 +327,7 @@ fn take_turns(net: &Network, links: &Links, coarse: &mut Coarse) -> Result<(), A
         let Some(node) = coarse.active.pop() else {
             return Ok(());
         };
-        turn(net, links, coarse, node)?;
+        turn(net, sides, coarse, node)?;
     }
     Ok(())
 }
@@ -328,10 +344,11 @@ pub fn coarse_potentials(
 {
     let mut potentials = first_potentials(alloc, net)?;
     let mut slack = greatest_cost(net);
+    let sides = sides_of(alloc, net, links)?;
     for _phase in 0..PHASES {
         slack /= SHRINKING;
-        let mut coarse = phase_at(alloc, net, links, potentials, slack.max(1))?;
-        take_turns(net, links, &mut coarse)?;
+        let mut coarse = phase_at(alloc, net, &sides, potentials, slack.max(1))?;
+        take_turns(net, &sides, &mut coarse)?;
         let ended = coarse.active.is_empty();
         potentials = coarse.potentials;
         if !ended || slack <= 1 {

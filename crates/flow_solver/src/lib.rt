@@ -19,6 +19,7 @@ mod guess;
 mod links;
 mod queue;
 mod search;
+mod sides;
 mod solver;
 mod start;
 mod state;

@@ -1,12 +1,9 @@
-use Rattle.flow_solver.specs.Coarse.{IsCoarse, IsNext}
+use Rattle.std.proofs.Common.{◌-◌}
+use Rattle.flow_solver.specs.Coarse.{IsCoarse}
 use Rattle.flow_solver.proofs.coarse.send.Given as goal
 
--- the bound is one of the node's
-abbrev pub invariant-loop-bound : goal.invariant-loop-bound
-invariant-loop-bound l = record {
-  coarse : IsCoarse l.net l.coarse;
-  next : IsNext l.net l.node l.bound;
-}
+abbrev pub invariant-loop-place : goal.invariant-loop-place
+invariant-loop-place l = IsCoarse l.net l.coarse
 
-abbrev pub decreases-loop-bound : goal.decreases-loop-bound
-decreases-loop-bound l = l.bound
+abbrev pub decreases-loop-place : goal.decreases-loop-place
+decreases-loop-place l = l.end - l.place
