@@ -1,8 +1,7 @@
 // The state that the whole search begins with.
-ghost use Rattle.std.specs.Prelude.{◌≡◌, ◌<◌, length, ℕ, ℤ, pos, ◌≤ℤ◌, IfOk};
-ghost use Rattle.bounded_network.specs.Network.{IsNetwork};
+ghost use Rattle.std.specs.Prelude.{IfOk};
 ghost use Rattle.flow_solver.specs.Links.{AreLinks};
-ghost use Rattle.flow_solver.specs.State.{IsWithin, IsState, AreCalm};
+ghost use Rattle.flow_solver.specs.State.{IsState, AreCalm};
 
 use crate::blank::blank;
 use crate::coarse::coarse_potentials;

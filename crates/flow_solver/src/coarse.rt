@@ -3,8 +3,8 @@
 // Excesses are sent over arcs with a negative reduced cost, and a node that has no such arc falls by a slack more than it
 // must to have one (Goldberg and Tarjan 1990). The slack shrinks from phase to phase. Only the potentials are kept, and any
 // are right to start from, so that nothing is proved of the amounts: those that would be too large stop at their bounds.
-ghost use Rattle.std.specs.Prelude.{◌≡◌, ◌+◌, ◌<◌, ◌≤◌, ◌⊎◌, length, ℕ, ℤ, pos, negsuc, ◌≤ℤ◌, ◌-ℤ◌, IfOk, OnOk, slice_index, All};
-ghost use Rattle.bounded_network.specs.Network.{IsArc, IsNetwork, arc_at, potential_at};
+ghost use Rattle.std.specs.Prelude.{◌≡◌, ◌<◌, length, ℕ, IfOk, OnOk, All};
+ghost use Rattle.bounded_network.specs.Network.{potential_at};
 ghost use Rattle.flow_solver.specs.Coarse.{IsCoarse};
 ghost use Rattle.flow_solver.specs.Links.{AreLinks};
 ghost use Rattle.flow_solver.specs.Sides.{IsSide, AreSides};
@@ -19,13 +19,14 @@ use crate::step::{arc_count, arc_of};
 use bounded_network::{MAX_COST, Network};
 use std::alloc::{AllocError, Global};
 
-// How many phases there are, and how far the slack shrinks in each.
+// How many phases there are.
 const PHASES: u32 = 6;
 
+// How far the slack shrinks from phase to phase.
 const SHRINKING: i64 = 8;
 
-// How many turns a phase has for each node and arc. Where there is no circulation, it would never end by itself.
-const TURNS: u64 = 64;
+// The effort that a phase may take for each node and arc. Where there is no circulation, it would never end by itself.
+const EFFORT: usize = 1024;
 
 // How much more an arc takes forward, and how much back.
 #[derive(Clone, Copy)]
@@ -316,18 +317,28 @@ fn turn(net: &Network, sides: &Sides, coarse: &mut Coarse, node: u32) -> Result<
     Ok(())
 }
 
-// Gives turns to the active nodes, the latest first, until there are none or the turns are used up.
+// The number of sides at the node.
+fn degree_of(net: &Network, sides: &Sides, node: u32) -> usize
+    requires sides { AreSides net.now sides.now }
+    requires node_in { node < net.now.nodes }
+{
+    sides.starts[node as usize + 1].saturating_sub(sides.starts[node as usize])
+}
+
+// Gives turns to the active nodes, the latest first, until there are none or the effort is spent. A turn takes as much as
+// the node has sides, and one more.
 fn take_turns(net: &Network, sides: &Sides, coarse: &mut Coarse) -> Result<(), AllocError>
     requires coarse { IsCoarse net.now coarse.old }
     requires sides { AreSides net.now sides.now }
     ensures { OnOk result (IsCoarse net.now coarse.new) }
 {
-    let items = u64::from(net.nodes()) + net.arcs().len() as u64;
-    for _turn in 0..TURNS * items {
+    let mut effort = EFFORT * (net.nodes() as usize + net.arcs().len());
+    while effort > 0 {
         let Some(node) = coarse.active.pop() else {
             return Ok(());
         };
         turn(net, sides, coarse, node)?;
+        effort = (effort - 1).saturating_sub(degree_of(net, sides, node));
     }
     Ok(())
 }
@@ -357,3 +368,6 @@ pub fn coarse_potentials(
     }
     Ok(potentials)
 }
+
+#[cfg(test)]
+mod tests;

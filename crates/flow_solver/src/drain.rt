@@ -1,6 +1,6 @@
 // Carrying away what a source has too much.
-ghost use Rattle.std.specs.Prelude.{◌≡◌, ◌<◌, length, ℕ, ℤ, Bool, pos, ◌≤ℤ◌, ◌<ℤ◌, IfOk, IfSome, IfNone};
-ghost use Rattle.bounded_network.specs.Network.{IsNetwork, AreViolated};
+ghost use Rattle.std.specs.Prelude.{◌≡◌, ◌<◌, length, ℕ, ℤ, pos, ◌≤ℤ◌, ◌<ℤ◌, IfOk, IfSome, IfNone};
+ghost use Rattle.bounded_network.specs.Network.{AreViolated};
 ghost use Rattle.std.specs.Bool.{OnTrue, OnFalse};
 ghost use Rattle.flow_solver.specs.Search.{IsBlank};
 ghost use Rattle.flow_solver.specs.Links.{AreLinks};

@@ -1,6 +1,5 @@
 // The arcs at each node side by side, for searches that go over them often.
-ghost use Rattle.std.specs.Prelude.{◌≡◌, ◌+◌, ◌<◌, ◌≤◌, length, ℕ, ℤ, pos, ◌≤ℤ◌, IfOk, OnOk, slice_index, All};
-ghost use Rattle.bounded_network.specs.Network.{IsArc, IsNetwork, arc_at};
+ghost use Rattle.std.specs.Prelude.{◌<◌, ◌≤◌, length, IfOk, OnOk, All};
 ghost use Rattle.flow_solver.specs.Links.{AreLinks};
 ghost use Rattle.flow_solver.specs.Sides.{IsSide, AreSides};
 
@@ -63,8 +62,8 @@ pub fn sides_of(alloc: Global, net: &Network, links: &Links) -> Result<Sides, Al
     requires links { AreLinks net.now links.now }
     ensures { IfOk result (λ sides. AreSides net.now sides) }
 {
-    let mut all = Vec::new(alloc);
-    let mut starts = Vec::new(alloc);
+    let mut all = Vec::with_capacity(alloc, 2 * net.arcs().len())?;
+    let mut starts = Vec::with_capacity(alloc, net.nodes() as usize + 1)?;
     starts.push(0)?;
     for node in 0..net.nodes() {
         add_sides(net, links, &mut all, node)?;

@@ -1,9 +1,6 @@
-ghost use Rattle.std.specs.Prelude.{◌≡◌, ◌*◌, ◌<◌, ◌≤◌, length, ℕ, ℤ, List, Bool, pos, ◌≤ℤ◌, IfOk};
-ghost use Rattle.bounded_network.specs.Network.{IsNetwork, IsCirculation, AreOptimal, IsCheapest, AreViolated, potential_at};
-ghost use Rattle.std.specs.Bool.{OnTrue, OnFalse};
-ghost use Rattle.flow_solver.specs.Search.{IsBlank};
-ghost use Rattle.flow_solver.specs.Links.{AreLinks};
-ghost use Rattle.flow_solver.specs.State.{IsWithin, IsState, AreCalm, AreBounded, excess_at};
+ghost use Rattle.std.specs.Prelude.{◌≡◌, length, ℕ, List, Bool, IfOk};
+ghost use Rattle.bounded_network.specs.Network.{IsCirculation, AreOptimal, IsCheapest, AreViolated};
+ghost use Rattle.flow_solver.specs.State.{AreBounded};
 ghost use Rattle.flow_solver.specs.Solution.{IfSolved, IfUnsat};
 
 use crate::begin::begin;
@@ -31,7 +28,8 @@ pub enum Solution {
 ///
 /// Successive shortest paths (Jewell, Iri, Busacker and Gowen) with potentials (Edmonds and Karp): it begins with amounts
 /// that are optimal at its first potentials but don't balance, and carries what is too much at a node to the nearest node
-/// that lacks something, by reduced costs, until nothing is left or nothing is reached. No number of steps is claimed.
+/// that lacks something, by reduced costs, until nothing is left or nothing is reached. Where much has to be settled for
+/// that, it begins anew at potentials that a coarse solution gives. No number of steps is claimed.
 pub fn solve(alloc: Global, net: &Network) -> Result<Solution, AllocError>
     ensures circulates { IfOk result (λ solution. IfSolved solution (λ flow potentials. IsCirculation net.now flow)) }
     ensures optimal { IfOk result (λ solution. IfSolved solution (λ flow potentials. AreOptimal net.now flow potentials)) }
