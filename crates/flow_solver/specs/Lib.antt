@@ -1,6 +1,8 @@
+pub mod Coarse
 pub mod Links
 pub mod Queue
 pub mod Search
+pub mod Sides
 pub mod Solution
 pub mod State
 pub mod Step

@@ -1,18 +1,12 @@
-ghost use Rattle.std.specs.Prelude.{◌≡◌, ◌*◌, ◌<◌, ◌≤◌, length, ℕ, ℤ, List, Bool, pos, ◌≤ℤ◌, IfOk};
-ghost use Rattle.bounded_network.specs.Network.{IsNetwork, IsCirculation, AreOptimal, IsCheapest, AreViolated, potential_at};
-ghost use Rattle.std.specs.Bool.{OnTrue, OnFalse};
-ghost use Rattle.flow_solver.specs.Search.{IsBlank};
-ghost use Rattle.flow_solver.specs.Links.{AreLinks};
-ghost use Rattle.flow_solver.specs.State.{IsWithin, IsState, AreCalm, AreBounded, excess_at};
+ghost use Rattle.std.specs.Prelude.{◌≡◌, length, ℕ, List, Bool, IfOk};
+ghost use Rattle.bounded_network.specs.Network.{IsCirculation, AreOptimal, IsCheapest, AreViolated};
+ghost use Rattle.flow_solver.specs.State.{AreBounded};
 ghost use Rattle.flow_solver.specs.Solution.{IfSolved, IfUnsat};
 
-use crate::blank::{blank, clear, set_out};
-use crate::guess::first_potentials;
-use crate::links::{Links, links_of};
-use crate::search::{Search, run};
-use crate::start::start_at;
-use crate::state::State;
-use crate::way::augment;
+use crate::begin::begin;
+use crate::blank::blank;
+use crate::drain::drain;
+use crate::links::links_of;
 use bounded_network::Network;
 use std::alloc::{AllocError, Global};
 
@@ -30,45 +24,12 @@ pub enum Solution {
     },
 }
 
-// Carries away what the source has too much, and is `false` where the settled nodes can't get rid of it.
-fn drain(
-    net: &Network,
-    links: &Links,
-    state: &mut State,
-    search: &mut Search,
-    source: u32,
-) -> Result<bool, AllocError>
-    requires kept { IsState net.now state.old.flow.items state.old.excess.items state.old.potentials.items }
-    requires calm { AreCalm net.now state.old.excess.items state.old.potentials.items }
-    requires links { AreLinks net.now links.now }
-    requires blank { IsBlank net.now search.old }
-    requires source_in { source < net.now.nodes }
-    ensures kept { IsState net.now state.new.flow.items state.new.excess.items state.new.potentials.items }
-    ensures calm { AreCalm net.now state.new.excess.items state.new.potentials.items }
-    ensures others { (v : ℕ) → excess_at state.old.excess.items v ≤ℤ pos 0 → excess_at state.new.excess.items v ≤ℤ pos 0 }
-    ensures blank { IfOk result (λ drained. OnTrue drained (IsBlank net.now search.new)) }
-    ensures drained { IfOk result (λ drained. OnTrue drained (excess_at state.new.excess.items source ≤ℤ pos 0)) }
-    ensures violated { IfOk result (λ drained. OnFalse drained (AreViolated net.now search.new.settled.items)) }
-    ensures long { IfOk result (λ drained. OnFalse drained (length search.new.settled.items ≡ net.now.nodes)) }
-{
-    let _nodes = net.nodes();
-    'draining: while state.excess[source as usize] > 0 {
-        set_out(net, state, search, source)?;
-        let found = run(net, links, state, search)?;
-        if !found {
-            return Ok(false);
-        }
-        augment(net, state, search);
-        clear(net, search);
-    }
-    Ok(true)
-}
-
 /// A circulation of least cost with the potentials that prove it, or marks that prove that there is none.
 ///
 /// Successive shortest paths (Jewell, Iri, Busacker and Gowen) with potentials (Edmonds and Karp): it begins with amounts
 /// that are optimal at its first potentials but don't balance, and carries what is too much at a node to the nearest node
-/// that lacks something, by reduced costs, until nothing is left or nothing is reached. No number of steps is claimed.
+/// that lacks something, by reduced costs, until nothing is left or nothing is reached. Where much has to be settled for
+/// that, it begins anew at potentials that a coarse solution gives. No number of steps is claimed.
 pub fn solve(alloc: Global, net: &Network) -> Result<Solution, AllocError>
     ensures circulates { IfOk result (λ solution. IfSolved solution (λ flow potentials. IsCirculation net.now flow)) }
     ensures optimal { IfOk result (λ solution. IfSolved solution (λ flow potentials. AreOptimal net.now flow potentials)) }
@@ -83,8 +44,7 @@ pub fn solve(alloc: Global, net: &Network) -> Result<Solution, AllocError>
 {
     let links = links_of(alloc, net)?;
     let _nodes = net.nodes();
-    let potentials = first_potentials(alloc, net)?;
-    let mut state = start_at(alloc, net, potentials)?;
+    let mut state = begin(alloc, net, &links)?;
     let mut search = blank(alloc, net)?;
     for source in 0..net.nodes() {
         let drained = drain(net, &links, &mut state, &mut search, source)?;

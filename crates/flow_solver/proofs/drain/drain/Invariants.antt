@@ -3,7 +3,7 @@ use Rattle.std.specs.Prelude.{pos, ◌≤ℤ◌}
 use Rattle.flow_solver.specs.Search.{IsBlank}
 use Rattle.flow_solver.specs.State.{IsState, AreCalm, excess_at}
 use Rattle.flow_solver.proofs.Endings.{worth}
-use Rattle.flow_solver.proofs.solver.drain.Given as goal
+use Rattle.flow_solver.proofs.drain.drain.Given as goal
 
 -- the state is kept, and who has too little or enough still has
 abbrev pub invariant-draining : goal.invariant-draining
