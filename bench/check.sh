@@ -1,5 +1,6 @@
 #!/bin/bash
-# Makes a certificate of 5,000 pieces with 4,500 places each (about 130 MB), and prints the ratio of
+# Makes a certificate of 5,000 pieces with 4,500 places each (about 130 MB), with an institution for every reviewer and
+# prices that meet its total, and prints the ratio of
 # `matcher check` on it to `LC_ALL=C wc -w` on the same file, in one run, with the peak memory of the check
 # beside the bytes that the lottery takes in memory (4 for each place).
 # usage: bench/check.sh PATH-OF-MATCHER [PIECES]
@@ -11,7 +12,7 @@ trap 'rm -rf "$folder"' EXIT
 python3 - "$folder/certificate" "$pieces" <<'MAKE'
 import sys
 path, pieces = sys.argv[1], int(sys.argv[2])
-papers, reviewers, demand = 45, 1500, 100
+papers, reviewers, demand, houses, score = 45, 1500, 100, 9, 1000000
 weight = 10000 // pieces
 columns = 1250
 def places(k):
@@ -31,12 +32,12 @@ with open(path, "w") as out:
     out.write(f"rules 1\ntickets 10000\nlimit 1500\npapers {papers}\n")
     out.writelines(f"p{p:04} {demand}\n" for p in range(papers))
     out.write(f"reviewers {reviewers}\n")
-    out.writelines(f"r{r:04} 0 1500\n" for r in range(reviewers))
+    out.writelines(f"r{r:04} 0 1500 i{r % houses}\n" for r in range(reviewers))
     out.write(f"pairs {papers * reviewers}\n")
-    out.writelines(f"{p} {r} 0 0 10000\n" for p in range(papers) for r in range(reviewers))
-    out.write("end rules\nlottery 1\nmode whole\nthreshold none\ntotal 0\n")
-    out.write(f"paper-prices {papers}\n" + "0\n" * papers)
-    out.write("group-prices 0\n")
+    out.writelines(f"{p} {r} {score} 0 10000\n" for p in range(papers) for r in range(reviewers))
+    out.write(f"end rules\nlottery 1\nmode whole\nthreshold none\ntotal {10000 * papers * demand * score}\n")
+    out.write(f"paper-prices {papers}\n" + f"{score}\n" * papers)
+    out.write(f"group-prices {papers * houses}\n" + "0\n" * (papers * houses))
     out.write(f"reviewer-prices {reviewers}\n" + "0\n" * reviewers)
     out.write(f"shares {papers * reviewers}\n")
     out.writelines(f"{x}\n" for x in shares)
