@@ -10,8 +10,8 @@ use Rattle.std.proofs.lemmas.List.Elements.{Contains-append_left, Contains-appen
 use Rattle.roster.specs.Table.{id_cmp, AllAbove, Ascend, row_of}
 use Rattle.roster.proofs.Tables.{id_itself}
 use Rattle.score_spec.specs.declared.union.PairKey.{PairKey}
-use Rattle.score_spec.specs.Keys.{pair_key, key_cmp, AscendKeys, AreKeys, has_pair, paper_keys, keys_of}
-use Rattle.score_spec.specs.PairTables.{Entry, Entries, entry_id, value_of, PairsValue, put_pair, HaveReviewers, ArePairs}
+use Rattle.score_spec.specs.Keys.{pair_key, key_cmp, AscendKeys, AreKeys, paper_keys, keys_of}
+use Rattle.score_spec.specs.PairTables.{has_pair, Entry, Entries, entry_id, value_of, PairsValue, put_pair, HaveReviewers, ArePairs}
 use Rattle.score_spec.proofs.PairTables.{entry, equal_same, above-none, pair-put, pair-others}
 
 same_is : (a b : List ℕ) → a ≡ b → is_eq (id_cmp a b) ≡ true

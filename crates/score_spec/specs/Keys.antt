@@ -1,12 +1,12 @@
 -- Pairs as keys, by paper and then by reviewer.
-use Rattle.std.specs.Prelude.{◌≡◌, ◌↔◌, true, ℕ, Bool, List, [], ◌∷◌, ◌++◌, map, is_some}
+use Rattle.std.specs.Prelude.{◌≡◌, ◌↔◌, true, ℕ, Bool, List, [], ◌++◌, ◌∷◌, map}
 use Rattle.std.specs.List.{Contains}
 use Rattle.std.specs.List.Sorted.{IsStrictlySortedBy}
 use Rattle.std.specs.Ordering.{ordering_then}
 use Rattle.std.specs.declared.cmp.Ordering.{Ordering}
 use Rattle.roster.specs.Table.{id_cmp}
 use Rattle.score_spec.specs.declared.union.PairKey.{PairKey}
-use Rattle.score_spec.specs.PairTables.{Entries, PairsValue, value_of_pair}
+use Rattle.score_spec.specs.PairTables.{Entries, PairsValue}
 
 abbrev pub pair_key : List ℕ → List ℕ → PairKey
 pair_key paper reviewer = record { paper = paper; reviewer = reviewer }
@@ -22,10 +22,6 @@ AscendKeys keys = IsStrictlySortedBy key_cmp keys
 -- the keys are those that pass
 abbrev pub AreKeys : (List ℕ → List ℕ → Bool) → List PairKey → Type 0
 AreKeys test keys = (paper reviewer : List ℕ) → Contains keys (pair_key paper reviewer) ↔ (test paper reviewer ≡ true)
-
--- the table has the pair
-abbrev pub has_pair : {V : Type 0} → PairsValue V → List ℕ → List ℕ → Bool
-has_pair table paper reviewer = is_some (value_of_pair table paper reviewer)
 
 abbrev pub paper_keys : {V : Type 0} → List ℕ → Entries V → List PairKey
 paper_keys paper reviewers = map (λ reviewer. pair_key paper reviewer.id) reviewers

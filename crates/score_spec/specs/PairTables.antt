@@ -1,5 +1,5 @@
 -- Tables of pairs: for each paper, in ascending order, its reviewers in ascending order, each with a value.
-use Rattle.std.specs.Prelude.{true, ◌≡◌, ℕ, ◌+◌, ◌≤◌, List, [], length, ◌∷◌, Option, unwrap_or, if◌then◌else◌}
+use Rattle.std.specs.Prelude.{true, is_some, None, Bool, ◌⊎◌, ◌≢◌, ◌≡◌, ℕ, ◌+◌, ◌≤◌, List, [], length, ◌∷◌, Option, unwrap_or, if◌then◌else◌}
 use Rattle.std.specs.Option.{option_map}
 use Rattle.std.specs.Ordering.{is_eq}
 use Rattle.match_rules.specs.Id.{is_id}
@@ -41,6 +41,14 @@ reviewers_of table paper = unwrap_or (value_of table paper) []
 abbrev pub value_of_pair : {V : Type 0} → PairsValue V → List ℕ → List ℕ → Option V
 value_of_pair table paper reviewer = value_of (reviewers_of table paper) reviewer
 
+-- the paper and the reviewer have a value
+abbrev pub has_pair : {V : Type 0} → PairsValue V → List ℕ → List ℕ → Bool
+has_pair table paper reviewer = is_some (value_of_pair table paper reviewer)
+
+-- each other pair has the value that it had
+abbrev pub OthersStay : {V : Type 0} → PairsValue V → PairsValue V → List ℕ → List ℕ → Type 0
+OthersStay old now paper reviewer = (p r : List ℕ) → (p ≢ paper) ⊎ (r ≢ reviewer) → value_of_pair now p r ≡ value_of_pair old p r
+
 -- the value stands for the paper and the reviewer, and all else stays
 abbrev pub put_pair : {V : Type 0} → List ℕ → List ℕ → V → PairsValue V → PairsValue V
 put_pair paper reviewer value table = put_value paper (put_value reviewer value (reviewers_of table paper)) table
@@ -49,6 +57,10 @@ put_pair paper reviewer value table = put_value paper (put_value reviewer value 
 abbrev pub pair_count : {V : Type 0} → PairsValue V → ℕ
 pair_count [] = 0
 pair_count (paper ∷ table) = length paper.value + pair_count table
+
+-- the pair has no value, and as many pairs have one as may
+abbrev pub HasNoRoom : {V : Type 0} → PairsValue V → List ℕ → List ℕ → Type 0
+HasNoRoom table paper reviewer = (value_of_pair table paper reviewer ≡ None) × (pair_count table ≡ 250000)
 
 -- each is spelled as an id
 abbrev pub AreIds : {V : Type 0} → Entries V → Type 0

@@ -1,5 +1,5 @@
 -- The values and bids of a conference, and the score of a pair: the weighted sum over all sources.
-use Rattle.std.specs.Prelude.{ℕ, Bool, true, false, ◌&&◌, ◌||◌, ℤ, pos, ◌+ℤ◌, ◌*ℤ◌, List, [], ◌∷◌, Option, is_some, unwrap_or}
+use Rattle.std.specs.Prelude.{◌≡◌, ◌⊎◌, ◌≢◌, ℕ, Bool, true, false, ◌&&◌, ◌||◌, ℤ, pos, ◌+ℤ◌, ◌*ℤ◌, List, [], ◌∷◌, Option, unwrap_or}
 use Rattle.std.specs.Option.{option_map, option_and_then}
 use Rattle.std.specs.List.{filter, list_any}
 use Rattle.std.specs.Ordering.{is_eq}
@@ -8,7 +8,7 @@ use Rattle.score_spec.specs.declared.spec.BidWord.{BidWord}
 use Rattle.score_spec.specs.declared.spec.Kind.{Kind}
 use Rattle.score_spec.specs.declared.spec.Kind.TheVariants.{Values, Bids}
 use Rattle.score_spec.specs.declared.spec.Spec.{Spec}
-use Rattle.score_spec.specs.PairTables.{Entries, PairsValue, value_of, put_value, without, value_of_pair, put_pair}
+use Rattle.score_spec.specs.PairTables.{Entries, PairsValue, value_of, put_value, without, value_of_pair, has_pair, put_pair}
 use Rattle.score_spec.specs.Sources.{SourceValue}
 
 abbrev pub is_values : Kind → Bool
@@ -20,9 +20,13 @@ pub record ScoresValue : Type 0 where
   pub values : Entries (PairsValue ℤ)
   pub bids : PairsValue (List ℕ)
 
--- the table of a source, which is empty where there is none
+-- the table of a source among these, which is empty where there is none
+abbrev pub table_in : Entries (PairsValue ℤ) → List ℕ → PairsValue ℤ
+table_in tables source = unwrap_or (value_of tables source) []
+
+-- the table of a source
 abbrev pub table_of : ScoresValue → List ℕ → PairsValue ℤ
-table_of scores source = unwrap_or (value_of scores.values source) []
+table_of scores source = table_in scores.values source
 
 abbrev pub no_scores : ScoresValue
 no_scores = record { values = []; bids = [] }
@@ -30,6 +34,11 @@ no_scores = record { values = []; bids = [] }
 -- the value stands for the pair by the source, and all else stays
 abbrev pub with_value : List ℕ → List ℕ → List ℕ → ℤ → ScoresValue → ScoresValue
 with_value source paper reviewer value scores = record scores { values = put_value source (put_pair paper reviewer value (table_of scores source)) scores.values }
+
+-- each other value of a source is as it was
+abbrev pub OtherValuesStay : ScoresValue → ScoresValue → List ℕ → List ℕ → List ℕ → Type 0
+OtherValuesStay old now source paper reviewer =
+    (name p r : List ℕ) → (name ≢ source) ⊎ ((p ≢ paper) ⊎ (r ≢ reviewer)) → value_of_pair (table_of now name) p r ≡ value_of_pair (table_of old name) p r
 
 -- the word stands for the pair, and all else stays
 abbrev pub with_bid : List ℕ → List ℕ → List ℕ → ScoresValue → ScoresValue
@@ -50,7 +59,7 @@ of_sources sources scores = record scores { values = filter (λ entry. has_value
 -- some table of values has the pair, or the table of bids
 abbrev pub has_row : ScoresValue → List ℕ → List ℕ → Bool
 has_row scores paper reviewer =
-    list_any (λ source. is_some (value_of_pair source.value paper reviewer)) scores.values || is_some (value_of_pair scores.bids paper reviewer)
+    list_any (λ source. has_pair source.value paper reviewer) scores.values || has_pair scores.bids paper reviewer
 
 -- the value of a word, where it is one of these
 abbrev pub value_of_word : List BidWord → List ℕ → Option ℤ

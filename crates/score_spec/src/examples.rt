@@ -3,8 +3,9 @@
 
 ghost use Rattle.std.specs.Prelude.{◌≡◌, [], ◌∷◌, true, false, None, Some, pos, neg_ℤ, codes};
 ghost use Rattle.score_spec.specs.Examples.{affinities, bids, small_scores, by_affinity, by_bids, by_both};
+ghost use Rattle.score_spec.specs.Keys.{keys_of, pair_key};
 ghost use Rattle.score_spec.specs.PairTables.{pair_count, put_pair, value_of_pair};
-ghost use Rattle.score_spec.specs.Scores.{has_row, score_of};
+ghost use Rattle.score_spec.specs.Scores.{has_row, score_of, table_of, without_values};
 
 /// Tables of pairs: look-ups, rows that stand for their keys, and counts.
 pub fn worked_tables()
@@ -17,6 +18,9 @@ pub fn worked_tables()
     ensures one_more { pair_count (put_pair (codes "p0") (codes "r2") (pos 1) affinities) ≡ 5 }
     ensures row { has_row small_scores (codes "p1") (codes "r3") ≡ true }
     ensures no_row { has_row small_scores (codes "p0") (codes "r3") ≡ false }
+    // The pairs by paper and then by reviewer.
+    ensures keys { keys_of bids ≡ pair_key (codes "p0") (codes "r1") ∷ (pair_key (codes "p1") (codes "r1") ∷ (pair_key (codes "p1") (codes "r2") ∷ [])) }
+    ensures cleared { table_of (without_values (codes "affinity") small_scores) (codes "affinity") ≡ [] }
 {}
 
 /// Scores in millionths: weights in hundredths times values in ten-thousandths.

@@ -1,6 +1,6 @@
-ghost use Rattle.std.specs.Prelude.{◌≡◌, ◌==◌, ◌↔◌, ◌≢◌, ◌⊎◌, ◌≤◌, [], ℕ, List, None, Some, Err, if◌then◌else◌, is_some, IfOk, OnOk, OnErr};
+ghost use Rattle.std.specs.Prelude.{◌≡◌, ◌==◌, ◌↔◌, ◌≤◌, [], Some, Err, if◌then◌else◌, IfOk, OnOk, OnErr};
 ghost use Rattle.std.specs.Option.{option_copied};
-ghost use Rattle.score_spec.specs.PairTables.{ArePairs, pair_count, put_pair, value_of_pair};
+ghost use Rattle.score_spec.specs.PairTables.{ArePairs, HasNoRoom, OthersStay, has_pair, pair_count, put_pair, value_of_pair};
 
 use crate::by_id::{ById, TableValue};
 use match_rules::{PaperId, ReviewerId};
@@ -98,7 +98,7 @@ impl<V> PairTable<V> {
 
     // How many rows a value for the pair adds.
     fn more_for(&self, paper: &str, reviewer: &str) -> u32
-        ensures { result ≡ (if is_some (value_of_pair self.now paper.now reviewer.now) then 0 else 1) }
+        ensures { result ≡ (if has_pair self.now paper.now reviewer.now then 0 else 1) }
     {
         match self.get(paper, reviewer) {
             Some(_) => 0,
@@ -112,8 +112,8 @@ impl<V> PairTable<V> {
         V: Drop,
         ensures put { OnOk result (self.new ≡ put_pair paper reviewer value self.old) }
         ensures stands { OnOk result (value_of_pair self.new paper reviewer ≡ Some value) }
-        ensures others { OnOk result ((p r : List ℕ) → (p ≢ paper) ⊎ (r ≢ reviewer) → value_of_pair self.new p r ≡ value_of_pair self.old p r) }
-        ensures full { (result ≡ Err ScoresFault.TooMany) ↔ ((value_of_pair self.old paper reviewer ≡ None) × (pair_count self.old ≡ 250000)) }
+        ensures others { OnOk result (OthersStay self.old self.new paper reviewer) }
+        ensures full { (result ≡ Err ScoresFault.TooMany) ↔ HasNoRoom self.old paper reviewer }
         ensures kept { OnErr result (self.new ≡ self.old) }
     {
         let more = self.more_for(paper.text(), reviewer.text());

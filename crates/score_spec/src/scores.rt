@@ -1,9 +1,9 @@
-ghost use Rattle.std.specs.Prelude.{◌≡◌, ◌&&◌, ◌↔◌, ◌≢◌, ◌⊎◌, [], ℕ, List, None, Some, Err, IfOk, OnOk, OnErr, if◌then◌else◌, filter, string_bytes};
-ghost use Rattle.std.specs.Option.{option_copied, unwrap_or};
+ghost use Rattle.std.specs.Prelude.{◌≡◌, ◌&&◌, ◌↔◌, ◌≢◌, [], ℕ, List, Some, Err, IfOk, OnOk, OnErr, if◌then◌else◌, filter, string_bytes};
+ghost use Rattle.std.specs.Option.{option_copied};
 ghost use Rattle.std.specs.Ordering.{is_eq};
 ghost use Rattle.roster.specs.Table.{id_cmp};
-ghost use Rattle.score_spec.specs.Scores.{has_values, is_values};
-ghost use Rattle.score_spec.specs.PairTables.{pair_count, put_pair, put_value, value_of, value_of_pair};
+ghost use Rattle.score_spec.specs.Scores.{has_values, is_values, table_in};
+ghost use Rattle.score_spec.specs.PairTables.{HasNoRoom, OthersStay, put_pair, put_value, value_of, value_of_pair};
 
 use crate::by_id::{ById, TableValue};
 use crate::numbers::Value;
@@ -24,8 +24,8 @@ fn put_in(
     reviewer: ReviewerId,
     value: Value,
 ) -> Result<(), ScoresFault>
-    ensures put { OnOk result (tables.new ≡ put_value source.now (put_pair paper reviewer value (unwrap_or (value_of tables.old source.now) [])) tables.old) }
-    ensures full { (result ≡ Err ScoresFault.TooMany) ↔ ((value_of_pair (unwrap_or (value_of tables.old source.now) []) paper reviewer ≡ None) × (pair_count (unwrap_or (value_of tables.old source.now) []) ≡ 250000)) }
+    ensures put { OnOk result (tables.new ≡ put_value source.now (put_pair paper reviewer value (table_in tables.old source.now)) tables.old) }
+    ensures full { (result ≡ Err ScoresFault.TooMany) ↔ HasNoRoom (table_in tables.old source.now) paper reviewer }
     ensures kept { OnErr result (tables.new ≡ tables.old) }
 {
     if let Some(table) = tables.get_mut(source) {
@@ -79,7 +79,7 @@ impl Model for Scores {
 
 impl Scores {
     ghost use Rattle.score_spec.specs.Keys.{AreKeys, AscendKeys};
-    ghost use Rattle.score_spec.specs.Scores.{has_row, no_scores, of_sources, table_of, with_bid, with_value, without_values};
+    ghost use Rattle.score_spec.specs.Scores.{OtherValuesStay, has_row, no_scores, of_sources, table_of, with_bid, with_value, without_values};
 
     /// No values and no bids. Takes no memory.
     pub fn new(alloc: Global) -> Self
@@ -123,9 +123,9 @@ impl Scores {
     ) -> Result<(), ScoresFault>
         ensures put { OnOk result (self.new ≡ with_value source.now paper reviewer value self.old) }
         ensures stands { OnOk result (value_of_pair (table_of self.new source.now) paper reviewer ≡ Some value) }
-        ensures others { OnOk result ((name p r : List ℕ) → (name ≢ source.now) ⊎ ((p ≢ paper) ⊎ (r ≢ reviewer)) → value_of_pair (table_of self.new name) p r ≡ value_of_pair (table_of self.old name) p r) }
+        ensures others { OnOk result (OtherValuesStay self.old self.new source.now paper reviewer) }
         ensures bids { self.new.bids ≡ self.old.bids }
-        ensures full { (result ≡ Err ScoresFault.TooMany) ↔ ((value_of_pair (table_of self.old source.now) paper reviewer ≡ None) × (pair_count (table_of self.old source.now) ≡ 250000)) }
+        ensures full { (result ≡ Err ScoresFault.TooMany) ↔ HasNoRoom (table_of self.old source.now) paper reviewer }
         ensures kept { OnErr result (self.new ≡ self.old) }
     {
         put_in(self.alloc, &mut self.values, source, paper, reviewer, value)
@@ -140,9 +140,9 @@ impl Scores {
     ) -> Result<(), ScoresFault>
         ensures put { OnOk result (self.new ≡ with_bid paper reviewer word self.old) }
         ensures stands { OnOk result (value_of_pair self.new.bids paper reviewer ≡ Some word) }
-        ensures others { OnOk result ((p r : List ℕ) → (p ≢ paper) ⊎ (r ≢ reviewer) → value_of_pair self.new.bids p r ≡ value_of_pair self.old.bids p r) }
+        ensures others { OnOk result (OthersStay self.old.bids self.new.bids paper reviewer) }
         ensures values { self.new.values ≡ self.old.values }
-        ensures full { (result ≡ Err ScoresFault.TooMany) ↔ ((value_of_pair self.old.bids paper reviewer ≡ None) × (pair_count self.old.bids ≡ 250000)) }
+        ensures full { (result ≡ Err ScoresFault.TooMany) ↔ HasNoRoom self.old.bids paper reviewer }
         ensures kept { OnErr result (self.new ≡ self.old) }
     {
         self.bids.put(paper, reviewer, word)

@@ -3,7 +3,8 @@ ghost use Rattle.std.specs.List.{list_any};
 ghost use Rattle.std.specs.Ordering.{is_eq};
 ghost use Rattle.match_rules.specs.Id.{is_id};
 ghost use Rattle.roster.specs.Table.{id_cmp};
-ghost use Rattle.score_spec.specs.PairTables.{AreIds, ArePairs, value_of};
+ghost use Rattle.score_spec.specs.PairTables.{AreIds, ArePairs, has_pair, value_of};
+ghost use Rattle.score_spec.specs.Keys.{keys_of, paper_keys};
 
 use crate::by_id::ById;
 use crate::numbers::Value;
@@ -18,8 +19,6 @@ pub struct PairKey {
     pub paper: PaperId,
     pub reviewer: ReviewerId,
 }
-
-ghost use Rattle.score_spec.specs.Keys.{has_pair, keys_of, paper_keys};
 
 // Adds a paper's reviewers.
 fn add_reviewers<V>(

@@ -11,4 +11,6 @@ returns c = record {
   one_more = refl;
   row = refl;
   no_row = refl;
+  keys = refl;
+  cleared = refl;
 }

@@ -1,6 +1,5 @@
 use Rattle.std.proofs.Common.{◌≡◌, ◌||◌, ℕ, List}
-use Rattle.score_spec.specs.Keys.{has_pair}
-use Rattle.score_spec.specs.PairTables.{ArePairs}
+use Rattle.score_spec.specs.PairTables.{ArePairs, has_pair}
 use Rattle.score_spec.specs.TextMaps.{entries_of}
 use Rattle.score_spec.proofs.union.add_pairs.Given as goal
 

@@ -1,7 +1,6 @@
 use Rattle.std.proofs.Common.{◌≡◌, ◌&&◌, ◌||◌, ℕ, List, is_some, is_eq}
 use Rattle.roster.specs.Table.{id_cmp}
-use Rattle.score_spec.specs.Keys.{has_pair}
-use Rattle.score_spec.specs.PairTables.{AreIds, ArePairs, value_of}
+use Rattle.score_spec.specs.PairTables.{AreIds, ArePairs, has_pair, value_of}
 use Rattle.score_spec.specs.TextMaps.{entries_of}
 use Rattle.score_spec.proofs.union.add_reviewers.Given as goal
 

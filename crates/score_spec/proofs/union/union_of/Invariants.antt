@@ -1,7 +1,6 @@
 use Rattle.std.proofs.Common.{◌≡◌, ◌||◌, ℕ, List}
 use Rattle.std.specs.List.{list_any}
-use Rattle.score_spec.specs.Keys.{has_pair}
-use Rattle.score_spec.specs.PairTables.{ArePairs}
+use Rattle.score_spec.specs.PairTables.{ArePairs, has_pair}
 use Rattle.score_spec.specs.TextMaps.{entries_of}
 use Rattle.score_spec.proofs.union.union_of.Given as goal
 
