@@ -20,7 +20,7 @@ use bounded_network::{MAX_COST, Network};
 use std::alloc::{AllocError, Global};
 
 // How many phases there are.
-const PHASES: u32 = 6;
+const PHASES: u32 = 7;
 
 // How far the slack shrinks from phase to phase.
 const SHRINKING: i64 = 8;
@@ -357,7 +357,6 @@ pub fn coarse_potentials(
     let mut slack = greatest_cost(net);
     let sides = sides_of(alloc, net, links)?;
     for _phase in 0..PHASES {
-        slack /= SHRINKING;
         let mut coarse = phase_at(alloc, net, &sides, potentials, slack.max(1))?;
         take_turns(net, &sides, &mut coarse)?;
         let ended = coarse.active.is_empty();
@@ -365,6 +364,7 @@ pub fn coarse_potentials(
         if !ended || slack <= 1 {
             return Ok(potentials);
         }
+        slack /= SHRINKING;
     }
     Ok(potentials)
 }
