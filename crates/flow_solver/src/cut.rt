@@ -63,3 +63,6 @@ pub fn is_violated(net: &Network, marks: &[bool]) -> bool
     }
     balance > 0
 }
+
+#[cfg(test)]
+mod tests;
