@@ -15,6 +15,7 @@
 mod begin;
 mod blank;
 mod coarse;
+mod cut;
 mod drain;
 mod guess;
 mod links;
