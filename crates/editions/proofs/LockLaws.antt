@@ -5,7 +5,7 @@ use Rattle.std.specs.Ordering.{is_eq}
 use Rattle.roster.specs.Table.{id_cmp, row_of}
 use Rattle.roster.specs.declared.rows.PaperRow.{PaperRow}
 use Rattle.roster.specs.declared.rows.ReviewerRow.{ReviewerRow}
-use Rattle.score_spec.specs.declared.scores.PairKey.{PairKey}
+use Rattle.editions.specs.declared.locks.Lock.{Lock}
 use Rattle.editions.specs.Candidates.{do_share}
 use Rattle.editions.specs.Parts.{lock_at}
 use Rattle.editions.specs.Venues.{VenueValue, paper_key, reviewer_key}
@@ -19,11 +19,11 @@ row-id {R} key id (r ∷ rows) row found = on (is_eq (id_cmp (key r) id)) refl (
     on true e rest later found = let here : r ≡ row = cc in sym (ap key here) ∙ same_id (key r) id e
     on false e rest later found = later found
 
-abbrev pub pair_key : List ℕ → List ℕ → Option PairKey
-pair_key paper reviewer = Some (record { paper = paper; reviewer = reviewer })
+abbrev pub lock_with : List ℕ → List ℕ → Option Lock
+lock_with paper reviewer = Some (record { paper = paper; reviewer = reviewer })
 
 pub locked : (venue : VenueValue) (paper reviewer : List ℕ) (mark : ℤ) (p : PaperRow) (r : ReviewerRow)
     → mark ≡ pos 1 → row_of paper_key paper venue.papers ≡ Some p → row_of reviewer_key reviewer venue.reviewers ≡ Some r → do_share p r ≡ true
-    → pair_key p.id r.id ≡ lock_at venue paper reviewer mark
+    → lock_with p.id r.id ≡ lock_at venue paper reviewer mark
 locked venue paper reviewer mark p r one papers reviewers share =
-    rw (one, papers, reviewers, share) (ap₂ pair_key (row-id paper_key paper venue.papers p papers) (row-id reviewer_key reviewer venue.reviewers r reviewers))
+    rw (one, papers, reviewers, share) (ap₂ lock_with (row-id paper_key paper venue.papers p papers) (row-id reviewer_key reviewer venue.reviewers r reviewers))

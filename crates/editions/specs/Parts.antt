@@ -4,18 +4,18 @@ use Rattle.match_rules.specs.Id.{is_id, is_institution}
 use Rattle.match_rules.specs.Rules.{RulesValue}
 use Rattle.roster.specs.declared.rows.PaperRow.{PaperRow}
 use Rattle.roster.specs.declared.rows.ReviewerRow.{ReviewerRow}
-use Rattle.score_spec.specs.declared.scores.PairKey.{PairKey}
+use Rattle.editions.specs.declared.locks.Lock.{Lock}
 use Rattle.editions.specs.declared.fault.EditFault.{EditFault}
 use Rattle.editions.specs.declared.fault.EditFault.TheVariants.{Memory, Import, Limit}
 use Rattle.editions.specs.declared.fault.LimitFault.{LimitFault}
 use Rattle.editions.specs.Venues.{VenueValue}
 use Rattle.editions.specs.VenueRules.{demand_of, load_of, is_forbidden_lock}
 
-abbrev pub key_of : List ℕ × List ℕ → PairKey
-key_of pair = record { paper = pair.0; reviewer = pair.1 }
+abbrev pub lock_of : List ℕ × List ℕ → Lock
+lock_of pair = record { paper = pair.0; reviewer = pair.1 }
 
 -- the paper and the reviewer, where the mark locks them though they share an institution
-abbrev pub lock_at : VenueValue → List ℕ → List ℕ → ℤ → Option PairKey
+abbrev pub lock_at : VenueValue → List ℕ → List ℕ → ℤ → Option Lock
 lock_at venue paper reviewer mark = if is_forbidden_lock venue paper reviewer mark then Some (record { paper = paper; reviewer = reviewer }) else None
 
 -- a row that rules may have as a paper

@@ -12,12 +12,12 @@ ghost use Rattle.roster.specs.Table.{Ascend};
 
 use crate::candidates::{MOST_PAIRS, candidates};
 use crate::fault::{EditFault, LimitFault};
-use crate::locks::forbidden_lock;
+use crate::locks::{Lock, forbidden_lock};
 use crate::tables::Tables;
 use bid_import::Settings;
 use match_rules::{Institution, RulePair, RulePaper, RuleReviewer, Rules};
 use roster::{Load, PaperRow, Papers, ReviewerRow, Reviewers};
-use score_spec::{PairKey, PairTable, Scores, Value};
+use score_spec::{PairTable, Scores, Value};
 use std::alloc::{AllocError, Global};
 
 fn demand_of(tables: &Tables, paper: &PaperRow) -> u32
@@ -170,7 +170,7 @@ fn unlocked(alloc: Global, tables: &Tables) -> Result<Rules, EditFault>
 {
     match forbidden_lock(alloc, tables) {
         Ok(None) => few_pairs(alloc, tables),
-        Ok(Some(PairKey { paper, reviewer })) => {
+        Ok(Some(Lock { paper, reviewer })) => {
             Err(EditFault::Limit(LimitFault::LockForbidden { paper, reviewer }))
         }
         Err(_) => Err(EditFault::Memory),

@@ -3,7 +3,7 @@ use Rattle.std.proofs.lemmas.Int.{to_z-of_z}
 use Rattle.std.specs.Option.{option_copied}
 use Rattle.roster.specs.Table.{row_of}
 use Rattle.editions.specs.Venues.{VenueValue, paper_key, reviewer_key}
-use Rattle.editions.proofs.LockLaws.{pair_key, locked}
+use Rattle.editions.proofs.LockLaws.{lock_with, locked}
 use Rattle.editions.proofs.locks.lock_at.Goals as goal
 
 pub returns : goal.returns
@@ -18,5 +18,5 @@ returns c =
     let reviewer : row_of reviewer_key c.args.reviewer.now venue.reviewers ≡ Some c.in-Some-get.reviewer.now =
     ap (row_of reviewer_key c.args.reviewer.now) (sym reviewers) ∙ sym c.get-2.ensures ∙ ap option_copied c.in-Some-get.is in
     let share = sym c.if-not-do_share.ensures in
-    ap₂ pair_key c.in_ok-paper.ensures.same c.in_ok-reviewer.ensures.same
+    ap₂ lock_with c.in_ok-paper.ensures.same c.in_ok-reviewer.ensures.same
     ∙ locked venue c.args.paper.now c.args.reviewer.now c.args.mark.now c.in-Some.paper.now c.in-Some-get.reviewer.now one paper reviewer share
