@@ -1,5 +1,5 @@
 -- Lowering the potentials of nodes one after another.
-use Rattle.std.proofs.Common.{◌≡◌, ◌≢◌, ℕ, rules, ◌^◌, ◌+◌, ◌-◌, ◌<◌, ◌≤◌, List, length, refl, sym, ap, subst, ◌∙◌, arith, below_more, get_or-set_same, get_or-set_other}
+use Rattle.std.proofs.Common.{◌≡◌, ◌≢◌, ℕ, rules, ◌^◌, ◌+◌, ◌<◌, List, length, sym, ap, ◌∙◌, arith, below_more, get_or-set_same, get_or-set_other}
 use Rattle.std.specs.Prelude.{ℤ, pos, ◌+ℤ◌, ◌-ℤ◌, ◌≤ℤ◌, FitsSigned, slice_set}
 use Rattle.std.specs.Int.{w64}
 use Rattle.flow_solver.specs.State.{IsWithin}

@@ -1,6 +1,7 @@
 pub mod Falls
 pub mod Bounds
 pub mod Chains
+pub mod Cuts
 pub mod Endings
 pub mod Falling
 pub mod Members

@@ -1,10 +1,12 @@
 // The state that the whole search begins with.
-ghost use Rattle.std.specs.Prelude.{IfOk};
+ghost use Rattle.std.specs.Prelude.{◌≡◌, length, IfOk, IfErr};
+ghost use Rattle.bounded_network.specs.Network.{AreViolated};
 ghost use Rattle.flow_solver.specs.Links.{AreLinks};
 ghost use Rattle.flow_solver.specs.State.{IsState, AreCalm};
 
 use crate::blank::blank;
 use crate::coarse::coarse_potentials;
+use crate::cut::{is_violated, low_nodes};
 use crate::drain::drain_while;
 use crate::guess::first_potentials;
 use crate::links::Links;
@@ -40,20 +42,33 @@ fn attempt(
     Ok(true)
 }
 
-/// The state that is left after little work from the plain start, or where that isn't enough, the state at potentials
-/// that a coarse solution gives. It takes more than the little work to find those, and then the rest of the work is less.
-pub fn begin(alloc: Global, net: &Network, links: &Links) -> Result<State, AllocError>
+/// The state that is left after little work from the plain start. Where that isn't enough, it is the state at potentials
+/// that a coarse solution gives: those take longer to find, and the rest of the work is less. Or it is marks that show that
+/// there is no circulation, which the coarse solution often finds.
+pub fn begin(
+    alloc: Global,
+    net: &Network,
+    links: &Links,
+) -> Result<Result<State, Vec<bool>>, AllocError>
     requires links { AreLinks net.now links.now }
-    ensures kept { IfOk result (λ state. IsState net.now state.flow.items state.excess.items state.potentials.items) }
-    ensures calm { IfOk result (λ state. AreCalm net.now state.excess.items state.potentials.items) }
+    ensures kept { IfOk result (λ begun. IfOk begun (λ state. IsState net.now state.flow.items state.excess.items state.potentials.items)) }
+    ensures calm { IfOk result (λ begun. IfOk begun (λ state. AreCalm net.now state.excess.items state.potentials.items)) }
+    ensures violated { IfOk result (λ begun. IfErr begun (λ marks. AreViolated net.now marks.items)) }
+    ensures long { IfOk result (λ begun. IfErr begun (λ marks. length marks.items ≡ net.now.nodes)) }
 {
     let _nodes = net.nodes();
     let potentials = first_potentials(alloc, net)?;
     let mut state = start_at(alloc, net, potentials)?;
     let easy = attempt(alloc, net, links, &mut state)?;
     if easy {
-        return Ok(state);
+        return Ok(Ok(state));
     }
     let better = coarse_potentials(alloc, net, links)?;
-    Ok(start_at(alloc, net, better)?)
+    let marks = low_nodes(alloc, &better)?;
+    let violated = is_violated(net, &marks);
+    if violated {
+        return Ok(Err(marks));
+    }
+    let coarse = start_at(alloc, net, better)?;
+    Ok(Ok(coarse))
 }

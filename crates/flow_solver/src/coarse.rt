@@ -20,10 +20,13 @@ use bounded_network::{MAX_COST, Network};
 use std::alloc::{AllocError, Global};
 
 // How many phases there are.
-const PHASES: u32 = 6;
+const PHASES: u32 = 7;
 
 // How far the slack shrinks from phase to phase.
 const SHRINKING: i64 = 8;
+
+// The greatest slack: with more of it, nodes could fall to the least potential though there is a circulation.
+const GREATEST_SLACK: i64 = MAX_COST / 16;
 
 // The effort that a phase may take for each node and arc. Where there is no circulation, it would never end by itself.
 const EFFORT: usize = 1024;
@@ -354,10 +357,9 @@ pub fn coarse_potentials(
     ensures small { IfOk result (λ potentials. (v : ℕ) → IsWithin 8000000000 (potential_at potentials.items v)) }
 {
     let mut potentials = first_potentials(alloc, net)?;
-    let mut slack = greatest_cost(net);
+    let mut slack = greatest_cost(net).min(GREATEST_SLACK);
     let sides = sides_of(alloc, net, links)?;
     for _phase in 0..PHASES {
-        slack /= SHRINKING;
         let mut coarse = phase_at(alloc, net, &sides, potentials, slack.max(1))?;
         take_turns(net, &sides, &mut coarse)?;
         let ended = coarse.active.is_empty();
@@ -365,6 +367,7 @@ pub fn coarse_potentials(
         if !ended || slack <= 1 {
             return Ok(potentials);
         }
+        slack /= SHRINKING;
     }
     Ok(potentials)
 }

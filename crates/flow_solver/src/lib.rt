@@ -9,12 +9,13 @@
 // Successive shortest paths (Jewell 1958; Iri 1960; Busacker and Gowen 1960) with potentials (Edmonds and Karp 1972),
 // from amounts that are optimal at the potentials where it starts and don't balance yet. Each path is found by Dijkstra's
 // search. Where that takes too many nodes, it starts anew at the potentials of a coarse solution by cost scaling (Goldberg
-// and Tarjan 1990). What is proved says nothing of the number of steps.
+// and Tarjan 1990), which also finds most of the marks. What is proved says nothing of the number of steps.
 #![tactic(auto)]
 
 mod begin;
 mod blank;
 mod coarse;
+mod cut;
 mod drain;
 mod guess;
 mod links;

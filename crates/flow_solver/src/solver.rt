@@ -44,7 +44,10 @@ pub fn solve(alloc: Global, net: &Network) -> Result<Solution, AllocError>
 {
     let links = links_of(alloc, net)?;
     let _nodes = net.nodes();
-    let mut state = begin(alloc, net, &links)?;
+    let mut state = match begin(alloc, net, &links)? {
+        Ok(state) => state,
+        Err(marks) => return Ok(Solution::Unsat { marks }),
+    };
     let mut search = blank(alloc, net)?;
     for source in 0..net.nodes() {
         let drained = drain(net, &links, &mut state, &mut search, source)?;

@@ -1,6 +1,5 @@
-use Rattle.std.proofs.Common.{◌≡◌, ◌<◌, length, arith, inl, inr, subst}
-use Rattle.std.specs.BinaryHeap.{heap_items}
-use Rattle.flow_solver.specs.Search.{IsCleared, reach_at}
+use Rattle.std.proofs.Common.{arith, inl, inr, subst}
+use Rattle.flow_solver.specs.Search.{IsCleared}
 use Rattle.flow_solver.proofs.blank.clear.Goals as goal
 
 pub forget_queue-requires-clause-distances_in : goal.forget_queue-requires-clause-distances_in

@@ -1,5 +1,4 @@
-use Rattle.std.proofs.Common.{◌≡◌, ◌<◌, ◌⊎◌, length, arith, inl, inr, subst, sym}
-use Rattle.std.specs.BinaryHeap.{heap_items}
+use Rattle.std.proofs.Common.{arith, inl, inr, subst, sym}
 use Rattle.flow_solver.specs.Search.{IsCleared}
 use Rattle.flow_solver.proofs.blank.forget_queue.Goals as goal
 

@@ -1,4 +1,4 @@
-use Rattle.std.proofs.Common.{◌≡◌, ◌⊎◌, ℕ, ◌<◌, length}
+use Rattle.std.proofs.Common.{◌≡◌, ◌⊎◌, ℕ, length}
 use Rattle.std.specs.BinaryHeap.{heap_items, heap_len}
 use Rattle.flow_solver.specs.Queue.{Waits}
 use Rattle.flow_solver.specs.Search.{IsCleared}

@@ -11,6 +11,10 @@ returns-then-not-drained-clause-none c =
     let broken = OnFalse_at c.if-not-drained.true c.in_ok-drained.ensures.violated in
     none-at_violated c.args.net.now c.drain.new.search.settled.items c.nodes-nodes.ensures.kept broken
 
+pub returns-in-Err-clause-none : goal.returns-in-Err-clause-none
+returns-in-Err-clause-none c =
+    none-at_violated c.args.net.now c.in-Err.marks.items c.nodes-nodes.ensures.kept (rw c.in-Err.is at c.in_ok-state.ensures.violated)
+
 circulates : (c : After-loop-source) → IsCirculation c.args.net.now c.loop-source.state.flow.items
 circulates c =
     IsCirculation-from_poor c.args.net.now c.loop-source.state c.nodes-nodes.ensures.kept c.loop-source.invariant.kept

@@ -1,5 +1,4 @@
-use Rattle.std.proofs.Common.{◌≡◌, ℕ, ◌-◌, ◌^◌, rules, arith, lit<}
-use Rattle.std.proofs.lemmas.Int.{ints}
+use Rattle.std.proofs.Common.{◌≡◌, ℕ, ◌-◌, ◌^◌, rules}
 use Rattle.bounded_network.specs.Network.{potential_at}
 use Rattle.flow_solver.specs.State.{IsWithin}
 use Rattle.std.specs.Prelude.{FitsSigned}
