@@ -1,3 +1,5 @@
+ghost use Rattle.std.specs.Prelude.{◌≢◌, IfOk};
+
 use crate::{Body, Edit, EditFault, Edited, How, LoadFault, TableName, Venue, load};
 use bid_import::Code;
 use edge_io::{MemoryFile, MemoryFolder};
@@ -37,7 +39,11 @@ fn small(alloc: Global) -> Result<Edited, Fail> {
     Ok(edited)
 }
 
-fn edit(alloc: Global, table: TableName, text: &str) -> Result<Edit, Fail> {
+// A merge into another table than the settings.
+fn edit(alloc: Global, table: TableName, text: &str) -> Result<Edit, Fail>
+    requires { table ≢ TableName.Settings }
+    ensures { IfOk result (λ edit. edit.table ≢ TableName.Settings) }
+{
     let bytes = Vec::from_slice(alloc, text.as_bytes())?;
     Ok(Edit {
         table,
