@@ -1,10 +1,10 @@
 -- The numbers of the pairs, in order, are those of the groups: so the table is that of the groups.
-use Rattle.std.proofs.Common.{◌≡◌, ℕ, zero, suc, ◌+◌, ◌*◌, ◌<◌, ◌≤◌, ◌⊎◌, inl, inr, List, [], ◌∷◌, length, get_or, map, Option, Some, None, Ordering, refl, sym, ap, ◌∙◌, subst, arith}
+use Rattle.std.proofs.Common.{◌≡◌, ℕ, ◌+◌, ◌*◌, ◌<◌, ◌≤◌, ◌⊎◌, inl, inr, List, [], ◌∷◌, length, get_or, map, Option, Some, None, Ordering, refl, sym, ap, ◌∙◌, subst, arith}
 use Rattle.std.specs.declared.cmp.Ordering.TheVariants.{Less, Equal, Greater}
 use Rattle.std.specs.Ordering.{nat_cmp, match_ordering, is_eq}
 use Rattle.std.specs.List.{AllByRecursion, Contains, position_or_len}
 use Rattle.std.specs.List.Sorted.{IsStrictlySortedBy, IsStrictlyIncreasing}
-use Rattle.std.proofs.lemmas.Bool.{cases_lt, cases_order}
+use Rattle.std.proofs.lemmas.Bool.{cases_order}
 use Rattle.std.proofs.lemmas.Bool.Decides.{nat_tests}
 use Rattle.std.proofs.lemmas.Cmp.{nat_list_cmp_total, tied_itself}
 use Rattle.std.proofs.lemmas.List.{get_or-map, length-map}
@@ -14,7 +14,7 @@ use Rattle.match_rules.specs.declared.rules.RulePair.{RulePair}
 use Rattle.match_rules.specs.declared.rules.RuleReviewer.{RuleReviewer}
 use Rattle.match_rules.specs.Rules.{RulesValue, pair_in, pair_at, reviewer_at, id_cmp, no_pair}
 use Rattle.match_rules.specs.Groups.{GroupKey, key_cmp, key_of, groups, group_count, group_of, no_key, group_key}
-use Rattle.match_rules.specs.GroupTable.{IsPlaceOf, HasName, IsRank, AreRanks, code_of, IsCodePlace, AreCodePlaces, IsFirstPair, IsCounted, IsGroupTable}
+use Rattle.match_rules.specs.GroupTable.{IsPlaceOf, HasName, IsRank, AreRanks, code_of, IsCodePlace, IsCounted, IsGroupTable}
 use Rattle.match_rules.proofs.Ascending.{IsIn, place_of_item, item_at_place, contains_from_in, in_from_contains, in_map, from_map, place_in_sorted, same_ascending}
 use Rattle.match_rules.proofs.GroupLaws.{groups_ascend, key_in_groups, pair_of_group, key_parts, group_of_some, group_has_pair, none_group_of}
 

@@ -1,13 +1,12 @@
 -- The groups of places, counted: the least group over the limit, and what it breaks.
-use Rattle.std.proofs.Common.{◌≡◌, ℕ, zero, suc, ◌+◌, ◌<◌, ◌≤◌, inl, inr, Bool, true, false, cond, eqb, leb, List, [], ◌∷◌, length, get_or, count_by, All, Option, Some, None, refl, sym, ap, ◌∙◌, arith}
+use Rattle.std.proofs.Common.{◌≡◌, ℕ, ◌<◌, ◌≤◌, inl, inr, Bool, true, false, cond, eqb, List, length, get_or, count_by, All, Option, Some, None, sym, ap, ◌∙◌, arith}
 use Rattle.std.proofs.lemmas.Bool.{cases_lt, cases_Bool, eqb-true, lt-leb, le-leb}
 use Rattle.std.proofs.lemmas.List.Elements.{All-from_get_or}
 use Rattle.std.proofs.lemmas.List.Sums.{sum_by-le}
 use Rattle.std.specs.Option.{option_map_or}
-use Rattle.match_rules.specs.declared.breaks.Break.{Break}
 use Rattle.match_rules.specs.declared.breaks.Break.TheVariants.{Group}
 use Rattle.match_rules.specs.Assignments.{member_count}
-use Rattle.match_rules.specs.Breaks.{unless, group_break}
+use Rattle.match_rules.specs.Breaks.{group_break}
 use Rattle.match_rules.specs.First.{first_below}
 use Rattle.match_rules.specs.Groups.{group_count, group_of, is_in_group}
 use Rattle.match_rules.specs.Rules.{RulesValue}

@@ -1,5 +1,5 @@
 -- What a table of groups says of the first pair of a group.
-use Rattle.std.proofs.Common.{◌≡◌, ℕ, ◌<◌, List, length, get_or, Option, Some, None, sym, ap, ◌∙◌, arith}
+use Rattle.std.proofs.Common.{◌≡◌, ℕ, ◌<◌, List, length, get_or, Option, Some, sym, ap, ◌∙◌, arith}
 use Rattle.std.proofs.lemmas.List.{get_or_read}
 use Rattle.match_rules.specs.declared.rules.RulePair.{RulePair}
 use Rattle.match_rules.specs.Rules.{RulesValue, pair_at, no_pair}

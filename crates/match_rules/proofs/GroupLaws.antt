@@ -1,16 +1,14 @@
 -- The laws of groups: they ascend, each is the key of a pair, and each pair that has a key is in the group of its key.
 use Rattle.std.proofs.Common.{◌≡◌, ◌↔◌, ℕ, zero, suc, ◌+◌, ◌<◌, ◌≤◌, ◌⊎◌, inl, inr, Bool, true, false, ltb, List, length, get_or, Option, Some, None, Ordering, refl, sym, ap, ◌∙◌, subst, arith}
 use Rattle.std.specs.declared.cmp.Ordering.TheVariants.{Less, Equal, Greater}
-use Rattle.std.specs.Ordering.{ordering_reverse, is_eq}
+use Rattle.std.specs.Ordering.{is_eq}
 use Rattle.std.specs.List.{position, position_or_len}
 use Rattle.std.specs.List.Sorted.{IsStrictlySortedBy}
-use Rattle.std.specs.Option.{option_map, option_map_or, option_and_then, IfSome, IsNone}
+use Rattle.std.specs.Option.{option_map, option_map_or, IfSome, IsNone}
 use Rattle.std.proofs.lemmas.Bool.{cases_lt}
 use Rattle.std.proofs.lemmas.Bool.Decides.{nat_tests}
 use Rattle.std.proofs.lemmas.Cmp.{tied_itself}
 use Rattle.std.proofs.lemmas.List.Quantifiers.{position-Some}
-use Rattle.std.proofs.lemmas.List.Sums.{position_or_len_is}
-use Rattle.std.proofs.lemmas.Map.Keys.{Less-from_sorted}
 use Rattle.std.proofs.lemmas.Option.{same_Some, option_and_then_some}
 use Rattle.match_rules.specs.Rules.{RulesValue, pair_at, reviewer_at}
 use Rattle.match_rules.specs.Groups.{GroupKey, key_cmp, same_key, key_of, put_key, put_some, keys_below, groups, group_count, group_of, has_key, member, first_member, no_key, group_key, paper_of_group}

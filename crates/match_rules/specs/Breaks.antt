@@ -1,5 +1,5 @@
 -- The first clause of the check that a lottery breaks: the least clause, in it the least piece, and then the least place.
-use Rattle.std.specs.Prelude.{ℕ, ◌*◌, Bool, ◌&&◌, not, ◌==◌, nat_le, if◌then◌else◌, List, length, Option, Some, None, slice_index}
+use Rattle.std.specs.Prelude.{ℕ, Bool, ◌&&◌, not, ◌==◌, nat_le, if◌then◌else◌, List, length, Option, Some, None, slice_index}
 use Rattle.match_rules.specs.declared.breaks.Break.{Break}
 use Rattle.match_rules.specs.declared.breaks.Break.TheVariants.{Tickets, Demand, Load, Group, Lock, Share, Cap}
 use Rattle.match_rules.specs.declared.lottery.Piece.{Piece}

@@ -3,9 +3,7 @@ use Rattle.std.specs.Prelude.{ℕ, zero, suc, Bool, false, ◌==◌, if◌then�
 use Rattle.std.specs.Option.{option_map, option_map_or, option_and_then}
 use Rattle.std.specs.Ordering.{nat_cmp, match_ordering, is_eq}
 use Rattle.std.specs.declared.cmp.Ordering.{Ordering}
-use Rattle.std.specs.declared.cmp.Ordering.TheVariants.{Less, Equal, Greater}
-use Rattle.match_rules.specs.declared.rules.RulePair.{RulePair}
-use Rattle.match_rules.specs.declared.rules.RuleReviewer.{RuleReviewer}
+use Rattle.std.specs.declared.cmp.Ordering.TheVariants.{Less, Greater}
 use Rattle.match_rules.specs.First.{first_below}
 use Rattle.match_rules.specs.Rules.{RulesValue, pair_at, reviewer_at, id_cmp}
 

@@ -1,8 +1,5 @@
 -- Which fault rules are refused for.
-use Rattle.std.specs.Prelude.{ℕ, List, length, take}
-use Rattle.match_rules.specs.declared.rules.RulePaper.{RulePaper}
-use Rattle.match_rules.specs.declared.rules.RuleReviewer.{RuleReviewer}
-use Rattle.match_rules.specs.declared.rules.RulePair.{RulePair}
+use Rattle.std.specs.Prelude.{length, take}
 use Rattle.match_rules.specs.declared.rules.RulesFault.{RulesFault}
 use Rattle.match_rules.specs.declared.rules.RulesFault.TheVariants.{Limit, Papers, Reviewers, Pairs, Memory}
 use Rattle.match_rules.specs.Rules.{RulesValue, IsLimit, ArePapers, AreReviewers, ArePairs, IsFirstFault}

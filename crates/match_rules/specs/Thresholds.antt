@@ -1,5 +1,5 @@
 -- The greatest feasible score threshold, with locked pairs exempt.
-use Rattle.std.specs.Prelude.{◌≡◌, ℕ, ◌<◌, Bool, true, false, List, length, ℤ, ◌<ℤ◌}
+use Rattle.std.specs.Prelude.{◌≡◌, ℕ, ◌<◌, false, List, length, ℤ, ◌<ℤ◌}
 use Rattle.match_rules.specs.declared.lottery.Piece.{Piece}
 use Rattle.match_rules.specs.declared.answer.Level.{Level}
 use Rattle.match_rules.specs.declared.answer.Level.TheVariants.{Unasked, Free, At}

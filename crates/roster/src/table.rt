@@ -86,6 +86,7 @@ fn put<R: Row>(rows: &mut Vec<R>, row: R) -> Result<(), RosterFault>
     requires few { length rows.old.items ≤ 1500 }
     ensures put { OnOk result (rows.new.items ≡ put_row R.key row rows.old.items) }
     ensures full { (result ≡ Err (RosterFault.TooMany 1500)) ↔ ((row_of R.key (R.key row) rows.old.items ≡ None) × (length rows.old.items ≡ 1500)) }
+    ensures limit { (count : ℕ) → result ≡ Err (RosterFault.TooMany count) → count ≡ 1500 }
     ensures kept { OnErr result (rows.new.items ≡ rows.old.items) }
     ensures few { length rows.new.items ≤ 1500 }
 {
@@ -163,6 +164,7 @@ impl<R: Row> Table<R> {
         ensures stands { OnOk result (row_of R.key (R.key row) self.new ≡ Some row) }
         ensures others { OnOk result ((id : List ℕ) → id ≢ R.key row → row_of R.key id self.new ≡ row_of R.key id self.old) }
         ensures full { (result ≡ Err (RosterFault.TooMany 1500)) ↔ ((row_of R.key (R.key row) self.old ≡ None) × (length self.old ≡ 1500)) }
+        ensures limit { (count : ℕ) → result ≡ Err (RosterFault.TooMany count) → count ≡ 1500 }
         ensures kept { OnErr result (self.new ≡ self.old) }
     {
         put(&mut self.rows, row)

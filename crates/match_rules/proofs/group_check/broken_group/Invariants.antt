@@ -1,4 +1,4 @@
-use Rattle.std.proofs.Common.{◌≡◌, None, ℕ}
+use Rattle.std.proofs.Common.{◌≡◌, None}
 use Rattle.match_rules.specs.Breaks.{group_break}
 use Rattle.match_rules.specs.First.{first_below}
 use Rattle.match_rules.specs.Groups.{group_count}

@@ -1,4 +1,4 @@
-use Rattle.std.proofs.Common.{◌≡◌, ◌<◌, arith, ◌∙◌}
+use Rattle.std.proofs.Common.{◌<◌, arith, ◌∙◌}
 use Rattle.match_rules.specs.Groups.{group_count}
 use Rattle.match_rules.proofs.GroupCounts.{no_over_break, over_break_is}
 use Rattle.match_rules.proofs.group_check.over_break.Goals as goal

@@ -1,6 +1,5 @@
 use Rattle.std.proofs.Common.{◌≡◌}
 use Rattle.std.proofs.lemmas.Result.{IfOk-weaker}
-use Rattle.match_rules.specs.declared.groups.GroupTable.{GroupTable}
 use Rattle.match_rules.specs.Rules.{RulesValue}
 use Rattle.match_rules.specs.GroupTable.{IsCounted, IsGroupTable}
 use Rattle.match_rules.proofs.GroupCodes.{table_is}

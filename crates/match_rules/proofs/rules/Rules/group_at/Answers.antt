@@ -1,7 +1,7 @@
 use Rattle.std.proofs.Common.{◌≡◌, subst, get_or}
 use Rattle.match_rules.specs.Rules.{RulesValue}
 use Rattle.match_rules.specs.GroupTable.{IsGroupTable}
-use Rattle.match_rules.proofs.GroupFirsts.{IsReadFirst, read_first}
+use Rattle.match_rules.proofs.GroupFirsts.{read_first}
 use Rattle.match_rules.proofs.rules.Rules.group_at.Goals as goal
 
 pub returns-clause-paper : goal.returns-clause-paper

@@ -1,7 +1,6 @@
 use Rattle.std.proofs.Common.{subst, arith, ◌≤◌, length}
 use Rattle.match_rules.specs.GroupTable.{IsGroupTable}
 use Rattle.match_rules.specs.Rules.{AreRules}
-use Rattle.match_rules.specs.Groups.{group_count}
 use Rattle.match_rules.proofs.GroupLaws.{group_count_few}
 use Rattle.match_rules.proofs.rules.Rules.group_count.Goals as goal
 
