@@ -76,6 +76,7 @@ fn a_full_table_takes_known_ids_alone(rt: HostRuntime) -> Result<(), Fail> {
     assert_eq!(rt; refused, Err(RosterFault::TooMany { count: 1500 }));
     papers.upsert(paper(alloc, "p1499", 2)?)?;
     assert_eq!(rt; papers.len(), 1500);
+    assert_eq!(rt; papers.place_of("p10"), Some(2));
     let found = papers.get("p1499").ok_or("no row")?;
     assert_eq!(rt; found.demand, Some(2));
     Ok(())
