@@ -4,7 +4,7 @@ use Rattle.std.proofs.Math.Seq.{take-append_seam, drop-append_seam}
 use Rattle.std.proofs.Math.ListN.{length-set}
 use Rattle.std.proofs.lemmas.List.{take-append-drop}
 use Rattle.std.proofs.lemmas.List.Edits.{length-insert}
-use Rattle.std.specs.Prelude.{if◌then◌else◌, OnOk, OnErr}
+use Rattle.std.specs.Prelude.{if◌then◌else◌, IsSome, OnOk, OnErr}
 use Rattle.std.specs.List.{insert}
 use Rattle.std.specs.List.Sorted.{IsSearchInRange, IsBinarySearchResult}
 use Rattle.std.specs.Ordering.{is_eq, ordering_index, ordering_reverse}
@@ -38,6 +38,10 @@ differ a b ne = on (id_cmp a b) refl
     on Less e = refl
     on Equal e = absurd (ne (id_same a b e))
     on Greater e = refl
+
+-- a row that is missing isn't known
+pub missing-known : {R : Type 0} (row : Option R) → row ≡ None → IsSome row → ⊥
+missing-known row none some = cc
 
 module _ {R : Type 0} (key : R → List ℕ) where
   above_more : (a b : List ℕ) (rows : List R) → id_cmp a b ≡ Less → AllAbove key b rows → AllAbove key a rows

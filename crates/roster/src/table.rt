@@ -1,4 +1,4 @@
-ghost use Rattle.std.specs.Prelude.{◌≡◌, [], ◌<◌, ◌≤◌, ◌↔◌, ◌≢◌, List, ℕ, length, slice_get, Some, None, Err, IfOk, IfErr, OnOk, OnErr};
+ghost use Rattle.std.specs.Prelude.{◌≡◌, [], ◌<◌, ◌≤◌, ◌↔◌, ◌≢◌, List, ℕ, length, slice_get, Some, None, Err, IsSome, IsOk, IfOk, IfErr, OnOk, OnErr};
 ghost use Rattle.std.specs.Option.{option_copied};
 ghost use Rattle.std.specs.Ordering.{nat_cmp};
 ghost use Rattle.std.specs.Cmp.Lexicographic.{slice_cmp};
@@ -87,6 +87,7 @@ fn put<R: Row>(rows: &mut Vec<R>, row: R) -> Result<(), RosterFault>
     ensures put { OnOk result (rows.new.items ≡ put_row R.key row rows.old.items) }
     ensures full { (result ≡ Err (RosterFault.TooMany 1500)) ↔ ((row_of R.key (R.key row) rows.old.items ≡ None) × (length rows.old.items ≡ 1500)) }
     ensures limit { (count : ℕ) → result ≡ Err (RosterFault.TooMany count) → count ≡ 1500 }
+    ensures known { IsSome (row_of R.key (R.key row) rows.old.items) → IsOk result }
     ensures kept { OnErr result (rows.new.items ≡ rows.old.items) }
     ensures few { length rows.new.items ≤ 1500 }
 {
@@ -158,13 +159,14 @@ impl<R: Row> Table<R> {
         &self.rows[place as usize]
     }
 
-    /// Puts a row for its key, in place of the one that had it.
+    /// Puts a row for its key, in place of the one that had it. A row of a key that is there always finds room.
     pub fn upsert(&mut self, row: R) -> Result<(), RosterFault>
         ensures put { OnOk result (self.new ≡ put_row R.key row self.old) }
         ensures stands { OnOk result (row_of R.key (R.key row) self.new ≡ Some row) }
         ensures others { OnOk result ((id : List ℕ) → id ≢ R.key row → row_of R.key id self.new ≡ row_of R.key id self.old) }
         ensures full { (result ≡ Err (RosterFault.TooMany 1500)) ↔ ((row_of R.key (R.key row) self.old ≡ None) × (length self.old ≡ 1500)) }
         ensures limit { (count : ℕ) → result ≡ Err (RosterFault.TooMany count) → count ≡ 1500 }
+        ensures known { IsSome (row_of R.key (R.key row) self.old) → IsOk result }
         ensures kept { OnErr result (self.new ≡ self.old) }
     {
         put(&mut self.rows, row)

@@ -57,3 +57,27 @@ fn reviewers_keep_institution_and_load(rt: HostRuntime) -> Result<(), Fail> {
     assert_eq!(rt; found.key(), "r1");
     Ok(())
 }
+
+// As many papers as there may be, from p0 to p1499.
+fn full_table(alloc: Global) -> Result<Papers, Fail> {
+    let mut papers = Papers::new(alloc);
+    for number in 0..1500u32 {
+        let id = format!(in alloc; "p{number}")?;
+        papers.upsert(paper(alloc, id.as_str(), 1)?)?;
+    }
+    Ok(papers)
+}
+
+#[test]
+fn a_full_table_takes_known_ids_alone(rt: HostRuntime) -> Result<(), Fail> {
+    let alloc = rt.alloc();
+    let mut papers = full_table(alloc)?;
+    let refused = papers.upsert(paper(alloc, "q", 1)?);
+    assert_eq!(rt; refused, Err(RosterFault::TooMany { count: 1500 }));
+    papers.upsert(paper(alloc, "p1499", 2)?)?;
+    assert_eq!(rt; papers.len(), 1500);
+    assert_eq!(rt; papers.place_of("p10"), Some(2));
+    let found = papers.get("p1499").ok_or("no row")?;
+    assert_eq!(rt; found.demand, Some(2));
+    Ok(())
+}

@@ -1,4 +1,4 @@
-ghost use Rattle.std.specs.Prelude.{◌≡◌, ◌==◌, [], length, None, IfOk, OnOk, OnErr};
+ghost use Rattle.std.specs.Prelude.{◌≡◌, ◌==◌, [], length, None, IsSome, IsOk, IfOk, OnOk, OnErr};
 ghost use Rattle.std.specs.Borrow.{sem};
 ghost use Rattle.std.specs.Option.{option_copied, option_copied_mut};
 ghost use Rattle.score_spec.specs.PairTables.{entry_id, put_value, value_of, without};
@@ -107,6 +107,7 @@ impl<V> ById<V> {
     where
         V: Drop,
         ensures put { OnOk result (self.new ≡ put_value id.now value self.old) }
+        ensures known { IsSome (value_of self.old id.now) → IsOk result }
         ensures kept { OnErr result (self.new ≡ self.old) }
     {
         match self.get_mut(id) {

@@ -1,4 +1,4 @@
-ghost use Rattle.std.specs.Prelude.{◌≡◌, ◌==◌, ◌↔◌, ◌≤◌, [], Some, Err, if◌then◌else◌, IfOk, OnOk, OnErr};
+ghost use Rattle.std.specs.Prelude.{◌≡◌, ◌==◌, ◌↔◌, ◌≤◌, [], Some, Err, if◌then◌else◌, IsSome, IsOk, IfOk, OnOk, OnErr};
 ghost use Rattle.std.specs.Option.{option_copied};
 ghost use Rattle.score_spec.specs.PairTables.{ArePairs, HasNoRoom, OthersStay, has_pair, pair_count, put_pair, value_of_pair};
 
@@ -25,6 +25,7 @@ pub(crate) fn put_in<V: Drop>(
     value: V,
 ) -> Result<(), AllocError>
     ensures put { OnOk result (papers.new ≡ put_pair paper.now reviewer.now value papers.old) }
+    ensures known { IsSome (value_of_pair papers.old paper.now reviewer.now) → IsOk result }
     ensures kept { OnErr result (papers.new ≡ papers.old) }
 {
     if let Some(reviewers) = papers.get_mut(paper) {
@@ -114,6 +115,7 @@ impl<V> PairTable<V> {
         ensures stands { OnOk result (value_of_pair self.new paper reviewer ≡ Some value) }
         ensures others { OnOk result (OthersStay self.old self.new paper reviewer) }
         ensures full { (result ≡ Err ScoresFault.TooMany) ↔ HasNoRoom self.old paper reviewer }
+        ensures known { IsSome (value_of_pair self.old paper reviewer) → IsOk result }
         ensures kept { OnErr result (self.new ≡ self.old) }
     {
         let more = self.more_for(paper.text(), reviewer.text());

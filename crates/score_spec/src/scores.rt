@@ -1,4 +1,4 @@
-ghost use Rattle.std.specs.Prelude.{◌≡◌, ◌&&◌, ◌↔◌, ◌≢◌, [], ℕ, List, Some, Err, IfOk, OnOk, OnErr, if◌then◌else◌, filter, string_bytes};
+ghost use Rattle.std.specs.Prelude.{◌≡◌, ◌&&◌, ◌↔◌, ◌≢◌, [], ℕ, List, Some, Err, IsSome, IsOk, IfOk, OnOk, OnErr, if◌then◌else◌, filter, string_bytes};
 ghost use Rattle.std.specs.Option.{option_copied};
 ghost use Rattle.std.specs.Ordering.{is_eq};
 ghost use Rattle.roster.specs.Table.{id_cmp};
@@ -26,6 +26,7 @@ fn put_in(
 ) -> Result<(), ScoresFault>
     ensures put { OnOk result (tables.new ≡ put_value source.now (put_pair paper reviewer value (table_in tables.old source.now)) tables.old) }
     ensures full { (result ≡ Err ScoresFault.TooMany) ↔ HasNoRoom (table_in tables.old source.now) paper reviewer }
+    ensures known { IsSome (value_of_pair (table_in tables.old source.now) paper reviewer) → IsOk result }
     ensures kept { OnErr result (tables.new ≡ tables.old) }
 {
     if let Some(table) = tables.get_mut(source) {
@@ -126,6 +127,7 @@ impl Scores {
         ensures others { OnOk result (OtherValuesStay self.old self.new source.now paper reviewer) }
         ensures bids { self.new.bids ≡ self.old.bids }
         ensures full { (result ≡ Err ScoresFault.TooMany) ↔ HasNoRoom (table_of self.old source.now) paper reviewer }
+        ensures known { IsSome (value_of_pair (table_of self.old source.now) paper reviewer) → IsOk result }
         ensures kept { OnErr result (self.new ≡ self.old) }
     {
         put_in(self.alloc, &mut self.values, source, paper, reviewer, value)
@@ -143,6 +145,7 @@ impl Scores {
         ensures others { OnOk result (OthersStay self.old.bids self.new.bids paper reviewer) }
         ensures values { self.new.values ≡ self.old.values }
         ensures full { (result ≡ Err ScoresFault.TooMany) ↔ HasNoRoom self.old.bids paper reviewer }
+        ensures known { IsSome (value_of_pair self.old.bids paper reviewer) → IsOk result }
         ensures kept { OnErr result (self.new ≡ self.old) }
     {
         self.bids.put(paper, reviewer, word)

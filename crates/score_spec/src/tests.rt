@@ -22,6 +22,7 @@ fn values_are_rounded_to_tenthousandths(rt: HostRuntime) {
     assert_eq!(rt; number("-10.0"), Ok(-100_000));
     assert_eq!(rt; number("+.5"), Ok(5_000));
     assert_eq!(rt; number("1e-999"), Ok(0));
+    assert_eq!(rt; number("0e999"), Ok(0));
     assert_eq!(rt; number("-0"), Ok(0));
     assert_eq!(rt; number("1."), Ok(10_000));
     assert_eq!(rt; number("00.5"), Ok(5_000));
@@ -36,9 +37,23 @@ fn faults_have_their_places(rt: HostRuntime) {
     assert_eq!(rt; number("nan"), Err(NumberFault::BadNumber { place: 0 }));
     assert_eq!(rt; number("."), Err(NumberFault::BadNumber { place: 1 }));
     assert_eq!(rt; number("1e1000"), Err(NumberFault::BadNumber { place: 5 }));
+    assert_eq!(rt; number("1e-1000"), Err(NumberFault::BadNumber { place: 6 }));
     let zeros = "0000000000000000000000000000000000000";
     assert_eq!(rt; zeros.len(), 37);
     assert_eq!(rt; number(zeros), Err(NumberFault::BadNumber { place: 36 }));
+}
+
+#[test]
+fn mantissas_of_36_digits_are_exact(rt: HostRuntime) {
+    let below_half = "0.00004999999999999999999999999999999";
+    assert_eq!(rt; below_half.len(), 37);
+    assert_eq!(rt; number(below_half), Ok(0));
+    let above_ten = "10.0000000000000000000000000000000001";
+    assert_eq!(rt; above_ten.len(), 37);
+    assert_eq!(rt; number(above_ten), Err(NumberFault::OutOfRange));
+    let longer = "0.000049999999999999999999999999999999";
+    assert_eq!(rt; longer.len(), 38);
+    assert_eq!(rt; number(longer), Err(NumberFault::BadNumber { place: 37 }));
 }
 
 fn words(alloc: Global) -> Result<Words, Fail> {
