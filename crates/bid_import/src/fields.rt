@@ -82,8 +82,8 @@ fn count(text: &str) -> Option<u32>
     }
 }
 
-pub(crate) fn demand(text: &str) -> Result<Option<u32>, RowFault>
-    ensures { Reads result (demand_of text.now) }
+pub(crate) fn demand(text: &str) -> Result<Option<u32>, Code>
+    ensures { result ≡ demand_of text.now }
 {
     if text.is_empty() {
         return Ok(None);
@@ -91,11 +91,11 @@ pub(crate) fn demand(text: &str) -> Result<Option<u32>, RowFault>
     match count(text) {
         Some(number) => {
             if number > 100 {
-                return Err(RowFault::Wrong(Code::BadDemand));
+                return Err(Code::BadDemand);
             }
             Ok(Some(number))
         }
-        None => Err(RowFault::Wrong(Code::BadDemand)),
+        None => Err(Code::BadDemand),
     }
 }
 
@@ -113,30 +113,30 @@ fn given_load(least: &str, greatest: &str) -> Option<Load>
     }
 }
 
-pub(crate) fn load(least: &str, greatest: &str) -> Result<Option<Load>, RowFault>
-    ensures { Reads result (load_of least.now greatest.now) }
+pub(crate) fn load(least: &str, greatest: &str) -> Result<Option<Load>, Code>
+    ensures { result ≡ load_of least.now greatest.now }
 {
     if least.is_empty() && greatest.is_empty() {
         return Ok(None);
     }
     match given_load(least, greatest) {
         Some(load) => Ok(Some(load)),
-        None => Err(RowFault::Wrong(Code::BadLoad)),
+        None => Err(Code::BadLoad),
     }
 }
 
-pub(crate) fn value(text: &str) -> Result<Value, RowFault>
-    ensures { Reads result (value_of text.now) }
+pub(crate) fn value(text: &str) -> Result<Value, Code>
+    ensures { result ≡ value_of text.now }
 {
     match read_value(text) {
         Ok(value) => Ok(value),
-        Err(NumberFault::BadNumber { place: _ }) => Err(RowFault::Wrong(Code::BadNumber)),
-        Err(NumberFault::OutOfRange) => Err(RowFault::Wrong(Code::OutOfRange)),
+        Err(NumberFault::BadNumber { place: _ }) => Err(Code::BadNumber),
+        Err(NumberFault::OutOfRange) => Err(Code::OutOfRange),
     }
 }
 
-fn mark_of(value: Value) -> Result<i32, RowFault>
-    ensures { Reads result (mark_from value) }
+fn mark_of(value: Value) -> Result<i32, Code>
+    ensures { result ≡ mark_from value }
 {
     let number = value.tenthousandths();
     if number == -10_000 {
@@ -148,37 +148,37 @@ fn mark_of(value: Value) -> Result<i32, RowFault>
     if number == 10_000 {
         return Ok(1);
     }
-    Err(RowFault::Wrong(Code::BadMark))
+    Err(Code::BadMark)
 }
 
-pub(crate) fn mark(text: &str) -> Result<i32, RowFault>
-    ensures { Reads result (then_of (value_of text.now) mark_from) }
+pub(crate) fn mark(text: &str) -> Result<i32, Code>
+    ensures { result ≡ then_of (value_of text.now) mark_from }
 {
     match value(text) {
         Ok(value) => mark_of(value),
-        Err(fault) => Err(fault),
+        Err(code) => Err(code),
     }
 }
 
-fn cap_of(value: Value) -> Result<Value, RowFault>
-    ensures { Reads result (cap_from value) }
+fn cap_of(value: Value) -> Result<Value, Code>
+    ensures { result ≡ cap_from value }
 {
     let number = value.tenthousandths();
     if number < 0 {
-        return Err(RowFault::Wrong(Code::BadCap));
+        return Err(Code::BadCap);
     }
     if number > 10_000 {
-        return Err(RowFault::Wrong(Code::BadCap));
+        return Err(Code::BadCap);
     }
     Ok(value)
 }
 
-pub(crate) fn cap(text: &str) -> Result<Value, RowFault>
-    ensures { Reads result (then_of (value_of text.now) cap_from) }
+pub(crate) fn cap(text: &str) -> Result<Value, Code>
+    ensures { result ≡ then_of (value_of text.now) cap_from }
 {
     match value(text) {
         Ok(value) => cap_of(value),
-        Err(fault) => Err(fault),
+        Err(code) => Err(code),
     }
 }
 

@@ -28,7 +28,7 @@ fn paper_row(
     };
     let demand = match fields::demand(demand_text) {
         Ok(demand) => demand,
-        Err(fault) => return Err(fault),
+        Err(code) => return Err(RowFault::Wrong(code)),
     };
     let authors = match fields::institutions(alloc, institutions_text) {
         Ok(authors) => authors,
@@ -60,7 +60,7 @@ fn reviewer_row(
     };
     let load = match fields::load(least_text, greatest_text) {
         Ok(load) => load,
-        Err(fault) => return Err(fault),
+        Err(code) => return Err(RowFault::Wrong(code)),
     };
     Ok(ReviewerRow {
         id,
@@ -87,7 +87,7 @@ fn value_row(
     };
     let value = match fields::value(value_text) {
         Ok(value) => value,
-        Err(fault) => return Err(fault),
+        Err(code) => return Err(RowFault::Wrong(code)),
     };
     Ok(ValueRow {
         paper,
@@ -142,7 +142,7 @@ fn mark_row(
     };
     let mark = match fields::mark(mark_text) {
         Ok(mark) => mark,
-        Err(fault) => return Err(fault),
+        Err(code) => return Err(RowFault::Wrong(code)),
     };
     Ok(MarkRow {
         paper,
@@ -169,7 +169,7 @@ fn cap_row(
     };
     let cap = match fields::cap(cap_text) {
         Ok(cap) => cap,
-        Err(fault) => return Err(fault),
+        Err(code) => return Err(RowFault::Wrong(code)),
     };
     Ok(CapRow {
         paper,
