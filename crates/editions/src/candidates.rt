@@ -151,7 +151,7 @@ fn add_listed(
     )
 }
 
-// Adds the candidates of a paper: of the reviewers that are listed for it alone.
+// Adds the candidates of a paper: it visits the reviewers that are listed for it, and no others.
 fn add_paper(
     found: &mut Found,
     tables: &Tables,

@@ -1,6 +1,4 @@
-use Rattle.std.proofs.Common.{◌≡◌, ◌∙◌, ℕ, Bool, false, true, List, length, sym, ap, subst}
-use Rattle.std.specs.List.{range_with_len}
-use Rattle.std.specs.Global.{Global}
+use Rattle.std.proofs.Common.{◌≡◌, ◌∙◌, ℕ, false, true, List, length, sym, ap, subst}
 use Rattle.std.proofs.lemmas.Result.{IfOk-weaker}
 use Rattle.roster.specs.Table.{Ascend}
 use Rattle.roster.specs.declared.rows.ReviewerRow.{ReviewerRow}
