@@ -1,13 +1,11 @@
 -- Reading one file after another.
-use Rattle.std.proofs.Common.{◌≡◌, ℕ, ◌≤◌, List, [], ◌∷◌, length, drop, Option, Some, None, refl, subst, ◌∙◌}
-use Rattle.std.specs.Prelude.{Result, Ok, Err, IsSome}
+use Rattle.std.proofs.Common.{◌≡◌, ℕ, ◌≤◌, List, [], length, drop, Option, refl, subst, ◌∙◌}
+use Rattle.std.specs.Prelude.{Result, Ok, Err}
 use Rattle.std.proofs.lemmas.List.{drop_all}
-use Rattle.bid_import.specs.declared.fault.Code.{Code}
 use Rattle.edge_io.specs.FileValues.{FileValue}
 use Rattle.edge_io.specs.Files.{file_named, told_files}
 use Rattle.editions.specs.declared.edit.TableName.{TableName}
 use Rattle.editions.specs.declared.edit.TableName.TheVariants.{Settings}
-use Rattle.editions.specs.declared.fault.LimitFault.{LimitFault}
 use Rattle.editions.specs.declared.fault.LoadFault.{LoadFault}
 use Rattle.editions.specs.declared.fault.LoadFault.TheVariants.{Memory, Folder, Bad, Limit}
 use Rattle.editions.specs.Loads.{Loaded, Loads, ReadsFiles, then_load, after_file, after_files, file_of, tables_of, venue_in}

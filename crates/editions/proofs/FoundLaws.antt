@@ -12,20 +12,12 @@ use Rattle.editions.specs.Venues.{VenueValue}
 next_row : {A : Type 0} (rows : List A) (j : ℕ) (row : A) → j < length rows → row ≡ get_or rows j row → drop j rows ≡ row ∷ drop (j + 1) rows
 next_row rows j row lt is = drop_more rows j row lt ∙ ap (λ r. r ∷ drop (j + 1) rows) (sym is)
 
-one-pair : (venue : VenueValue) (i : ℕ) (paper : PaperRow) (j : ℕ) (row : ReviewerRow) (rows : List ReviewerRow) → pairs_of_paper venue i paper j (row ∷ rows) ≡ candidate_at venue i paper j row ++ pairs_of_paper venue i paper (j + 1) rows
+pub one-pair : (venue : VenueValue) (i : ℕ) (paper : PaperRow) (j : ℕ) (row : ReviewerRow) (rows : List ReviewerRow) → pairs_of_paper venue i paper j (row ∷ rows) ≡ candidate_at venue i paper j row ++ pairs_of_paper venue i paper (j + 1) rows
 one-pair venue i paper j row rows = on (is_candidate venue paper row) (pair_of venue i paper j row) (pairs_of_paper venue i paper (j + 1) rows)
   where
     on : (b : Bool) (p : RulePair) (rest : List RulePair) → (if b then p ∷ rest else rest) ≡ (if b then p ∷ [] else []) ++ rest
     on true p rest = refl
     on false p rest = refl
-
-pub reviewer-turn : (venue : VenueValue) (i : ℕ) (paper : PaperRow) (j : ℕ) (row : ReviewerRow) (rows : List ReviewerRow) (done whole : List RulePair) → j < length rows → row ≡ get_or rows j row
-    → done ++ pairs_of_paper venue i paper j (drop j rows) ≡ whole → (done ++ candidate_at venue i paper j row) ++ pairs_of_paper venue i paper (j + 1) (drop (j + 1) rows) ≡ whole
-reviewer-turn venue i paper j row rows done whole lt is so_far =
-    append_assoc done (candidate_at venue i paper j row) (pairs_of_paper venue i paper (j + 1) (drop (j + 1) rows))
-    ∙ ap (λ ps. done ++ ps) (sym (one-pair venue i paper j row (drop (j + 1) rows)))
-    ∙ ap (λ rs. done ++ pairs_of_paper venue i paper j rs) (sym (next_row rows j row lt is))
-    ∙ so_far
 
 pub paper-turn : (venue : VenueValue) (i : ℕ) (row : PaperRow) (rows : List PaperRow) (done whole : List RulePair) → i < length rows → row ≡ get_or rows i row
     → done ++ pairs_from venue i (drop i rows) ≡ whole → (done ++ pairs_of_paper venue i row 0 venue.reviewers) ++ pairs_from venue (i + 1) (drop (i + 1) rows) ≡ whole
@@ -34,7 +26,7 @@ paper-turn venue i row rows done whole lt is so_far =
     ∙ ap (λ rs. done ++ pairs_from venue i rs) (sym (next_row rows i row lt is))
     ∙ so_far
 
-drop-all : {A : Type 0} (rows : List A) (i : ℕ) → length rows ≤ i → drop i rows ≡ []
+pub drop-all : {A : Type 0} (rows : List A) (i : ℕ) → length rows ≤ i → drop i rows ≡ []
 drop-all [] zero le = refl
 drop-all [] (suc i) le = refl
 drop-all (row ∷ rows) zero le = absurd (omega arith)

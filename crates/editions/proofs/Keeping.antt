@@ -1,6 +1,6 @@
 -- The limits of single rows: the readers keep them, and so does each put of a row.
-use Rattle.std.proofs.Common.{◌≡◌, ℕ, ◌+◌, ◌≤◌, List, [], ◌∷◌, length, Option, Some, None, Bool, true, false, inl, inr, refl, arith}
-use Rattle.std.specs.Prelude.{Result, Ok, Err, if◌then◌else◌, All, nat_le, ◌==◌, ◌&&◌, ℤ, pos, int_le, ◌≤ℤ◌, unwrap_or}
+use Rattle.std.proofs.Common.{◌≡◌, ℕ, ◌+◌, List, [], ◌∷◌, length, Option, Some, None, Bool, inl, inr, refl}
+use Rattle.std.specs.Prelude.{Result, Ok, Err, All, nat_le, ◌==◌, ℤ, pos, int_le, unwrap_or}
 use Rattle.std.specs.Option.{option_map}
 use Rattle.std.specs.Ordering.{is_eq}
 use Rattle.std.specs.declared.cmp.Ordering.{Ordering}
@@ -11,9 +11,8 @@ use Rattle.std.specs.Int.Signed.{le_z_yes}
 use Rattle.std.proofs.lemmas.List.Elements.{All-nil, All-cons, All-head, All-tail}
 use Rattle.roster.specs.Table.{id_cmp, by_order, row_of, put_row}
 use Rattle.roster.specs.declared.rows.PaperRow.{PaperRow}
-use Rattle.score_spec.specs.PairTables.{Entry, Entries, PairsValue, entry_id, value_of, put_value, reviewers_of, put_pair}
+use Rattle.score_spec.specs.PairTables.{Entry, Entries, PairsValue, entry_id, put_value, reviewers_of, put_pair}
 use Rattle.bid_import.specs.declared.fault.Code.{Code}
-use Rattle.bid_import.specs.declared.fault.Code.TheVariants.{BadDemand, BadCap}
 use Rattle.bid_import.specs.declared.rows.CapRow.{CapRow}
 use Rattle.bid_import.specs.Fields.{then_of, id_of, count_of, demand_from, demand_of, names_in, institutions_of, value_of as value_text, cap_from, paper_of, cap_row_of, from_three, three_of}
 use Rattle.bid_import.specs.Files.{rows_of_file, first_row_of}
@@ -21,7 +20,7 @@ use Rattle.bid_import.specs.Kinds.{paper_row, paper_columns, cap_row, cap_column
 use Rattle.editions.specs.Edits.{Made, then_make, papers_after, caps_after}
 use Rattle.editions.specs.Puts.{put_all, paper_has_room, put_paper, cap_has_room, put_cap_row}
 use Rattle.editions.specs.Venues.{paper_key, IsDemand, IsCap}
-use Rattle.editions.proofs.Rows.{AreRows, rows_are}
+use Rattle.editions.proofs.Rows.{rows_are}
 
 -- a put keeps what each of the rows has
 

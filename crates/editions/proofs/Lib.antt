@@ -4,10 +4,10 @@ pub mod Makes
 pub mod Folders
 pub mod AnswerLaws
 pub mod CapLaws
-pub mod CellLaws
-pub mod CellMaps
+pub mod ListedLaws
 pub mod FoundLaws
 pub mod LockLaws
+pub mod WalkLaws
 pub mod PairLaws
 pub mod RowLaws
 pub mod RuleLaws

@@ -9,14 +9,14 @@ use Rattle.editions.specs.declared.locks.Lock.{Lock}
 use Rattle.editions.specs.Candidates.{do_share}
 use Rattle.editions.specs.Parts.{lock_at}
 use Rattle.editions.specs.Venues.{VenueValue, paper_key, reviewer_key}
-use Rattle.editions.proofs.CellLaws.{same_id}
+use Rattle.score_spec.proofs.PairTables.{equal_same}
 
 row-id : {R : Type 0} (key : R → List ℕ) (id : List ℕ) (rows : List R) (row : R) → row_of key id rows ≡ Some row → key row ≡ id
 row-id key id [] row found = absurd cc
 row-id {R} key id (r ∷ rows) row found = on (is_eq (id_cmp (key r) id)) refl (row_of key id rows) (row-id key id rows row) found
   where
     on : (b : Bool) → is_eq (id_cmp (key r) id) ≡ b → (rest : Option R) → (rest ≡ Some row → key row ≡ id) → (if b then Some r else rest) ≡ Some row → key row ≡ id
-    on true e rest later found = let here : r ≡ row = cc in sym (ap key here) ∙ same_id (key r) id e
+    on true e rest later found = let here : r ≡ row = cc in sym (ap key here) ∙ equal_same (key r) id e
     on false e rest later found = later found
 
 abbrev pub lock_with : List ℕ → List ℕ → Option Lock

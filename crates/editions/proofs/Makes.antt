@@ -1,9 +1,9 @@
 -- What is made of a part, and then of the whole.
-use Rattle.std.proofs.Common.{◌≡◌, ℕ, List, [], Bool, true, false, refl}
-use Rattle.std.specs.Prelude.{Result, Ok, Err, ℤ}
+use Rattle.std.proofs.Common.{List, refl}
+use Rattle.std.specs.Prelude.{Err, ℤ}
 use Rattle.std.proofs.lemmas.List.Elements.{All-nil}
 use Rattle.roster.specs.declared.rows.PaperRow.{PaperRow}
-use Rattle.score_spec.specs.PairTables.{Entry, Entries, PairsValue}
+use Rattle.score_spec.specs.PairTables.{PairsValue}
 use Rattle.bid_import.specs.declared.fault.ImportFault.{ImportFault}
 use Rattle.bid_import.specs.declared.fault.ImportFault.TheVariants.{Memory, Bad}
 use Rattle.editions.specs.declared.edit.How.{How}

@@ -1,13 +1,12 @@
 -- The rows of a file: no more than its limit, and each keeps what a row of such a file keeps.
-use Rattle.std.proofs.Common.{◌≡◌, ℕ, zero, suc, ◌+◌, ◌≤◌, List, [], ◌∷◌, length, Option, Some, None, Bool, true, false, inl, inr, refl, arith, add-one}
-use Rattle.std.specs.Prelude.{Result, Ok, Err, if◌then◌else◌, All}
+use Rattle.std.proofs.Common.{◌≡◌, ℕ, zero, suc, ◌+◌, ◌≤◌, List, [], ◌∷◌, length, Option, Some, None, inl, inr, refl, arith}
+use Rattle.std.specs.Prelude.{Result, Ok, Err, All}
 use Rattle.std.specs.List.{list_all}
 use Rattle.std.specs.Str.{is_utf8}
 use Rattle.std.proofs.lemmas.Bool.{cases_Bool}
 use Rattle.std.proofs.lemmas.List.Elements.{All-nil, All-cons}
 use Rattle.bid_import.specs.declared.fault.Code.{Code}
-use Rattle.bid_import.specs.declared.fault.Code.TheVariants.{TooMany, NotUtf8}
-use Rattle.bid_import.specs.Files.{checked, with_row, then_rows, rows_from, is_header, rows_of_records, rows_of_file, first_of, first_number, first_row_of}
+use Rattle.bid_import.specs.Files.{checked, then_rows, rows_from, is_header, rows_of_records, rows_of_file, first_of, first_number, first_row_of}
 
 -- what is known of the rows so far
 pub record AreRows {A : Type 0} (P : A → Type 0) (most : ℕ) (rows : List A) : Type 0 where

@@ -1,7 +1,6 @@
 -- What an edit and a folder are answered by.
-use Rattle.std.specs.Prelude.{◌≡◌, ℕ, Result, Ok, Err, ⊤}
+use Rattle.std.specs.Prelude.{◌≡◌, Result, Ok, Err, ⊤}
 use Rattle.match_rules.specs.Rules.{RulesValue}
-use Rattle.bid_import.specs.declared.fault.Code.{Code}
 use Rattle.editions.specs.declared.fault.EditFault.{EditFault}
 use Rattle.editions.specs.declared.fault.EditFault.TheVariants.{Memory, Import, Limit}
 use Rattle.editions.specs.declared.fault.LimitFault.{LimitFault}

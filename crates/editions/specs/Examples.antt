@@ -1,13 +1,12 @@
 -- Small venues, over which the definitions are computed.
-use Rattle.std.specs.Prelude.{ℕ, List, [], ◌∷◌, codes, Option, Some, None, ℤ, pos, neg_ℤ, Result, Ok}
+use Rattle.std.specs.Prelude.{ℕ, List, [], ◌∷◌, codes, Option, Some, None, ℤ, pos}
 use Rattle.match_rules.specs.Rules.{RulesValue, rules_value}
 use Rattle.match_rules.specs.declared.rules.RulePair.{RulePair}
 use Rattle.roster.specs.declared.rows.PaperRow.{PaperRow}
 use Rattle.roster.specs.declared.rows.ReviewerRow.{ReviewerRow}
 use Rattle.score_spec.specs.PairTables.{Entry, PairsValue}
-use Rattle.score_spec.specs.Scores.{ScoresValue}
 use Rattle.bid_import.specs.Settings.{default_settings}
-use Rattle.editions.specs.Venues.{VenueValue, empty_venue}
+use Rattle.editions.specs.Venues.{VenueValue}
 
 abbrev pub entry : {V : Type 0} → List ℕ → V → Entry V
 entry id value = record { id = id; value = value }

@@ -1,6 +1,6 @@
 pub mod Venues
 pub mod Candidates
-pub mod Cells
+pub mod Listed
 pub mod Found
 pub mod Parts
 pub mod VenueRules

@@ -1,6 +1,5 @@
 -- The venue of a folder: its files as edits, in their order.
 use Rattle.std.specs.Prelude.{◌≡◌, ℕ, nat_lt, Bool, true, false, if◌then◌else◌, List, [], ◌∷◌, ◌++◌, length, map, filter, codes, Option, Some, None, Result, Ok, Err, ⊤, ◌≤◌, IsSome, IsErrOf}
-use Rattle.match_rules.specs.Rules.{RulesValue}
 use Rattle.score_spec.specs.Scores.{is_values}
 use Rattle.score_spec.specs.Sources.{SourceValue}
 use Rattle.bid_import.specs.declared.fault.Code.{Code}

@@ -1,14 +1,15 @@
 // The candidate pairs of a venue.
 
-ghost use Rattle.std.specs.Prelude.{◌≡◌, ◌<◌, ◌≤◌, ◌+◌, ◌*◌, ◌^◌, ◌++◌, ◌∷◌, [], List, length, map, if◌then◌else◌, IfOk, OnOk};
-ghost use Rattle.editions.specs.Candidates.{is_candidate, pair_of, pairs_of_paper, candidates, tickets_of};
-ghost use Rattle.editions.specs.Cells.{cell_of};
+ghost use Rattle.std.specs.Prelude.{◌≡◌, ◌<◌, ◌≤◌, ◌+◌, ◌*◌, ◌^◌, ◌||◌, ◌++◌, ◌∷◌, [], List, pos, neg_ℤ, IfOk, IsTrue, OnOk};
+ghost use Rattle.std.specs.Ordering.{int_eq};
+ghost use Rattle.editions.specs.Candidates.{do_share, is_listed, pair_of, pairs_of_paper, candidates, tickets_of};
 ghost use Rattle.editions.specs.Found.{AreFound, IsWithin, candidate_at};
-ghost use Rattle.editions.specs.Venues.{IsCap, KeepsLimits, cap_of};
+ghost use Rattle.editions.specs.Listed.{AreListed};
+ghost use Rattle.editions.specs.Venues.{IsCap, KeepsLimits, cap_of, mark_of};
 ghost use Rattle.match_rules.specs.declared.rules.RulePair.{RulePair};
 
-use crate::cells::{Cell, cells_of};
 use crate::conflict::do_share;
+use crate::listed::listed_places;
 use crate::tables::Tables;
 use match_rules::{MOST_TICKETS, RulePair};
 use roster::{PaperRow, ReviewerRow};
@@ -24,12 +25,19 @@ pub(crate) struct Found {
     pub pairs: Vec<RulePair>,
 }
 
-fn is_candidate(tables: &Tables, paper: &PaperRow, reviewer: &ReviewerRow, cell: Cell) -> bool
-    requires { cell ≡ cell_of tables.now paper.now reviewer.now }
-    ensures { result ≡ is_candidate tables.now paper.now reviewer.now }
+fn mark_of(tables: &Tables, paper: &PaperRow, reviewer: &ReviewerRow) -> i32
+    ensures { result ≡ mark_of tables.now paper.now.id reviewer.now.id }
 {
-    let is_listed = tables.settings.all_pairs() || cell.listed || cell.mark == 1;
-    is_listed && cell.mark != -1 && !do_share(paper, reviewer)
+    match tables.marks.get(paper.id.text(), reviewer.id.text()) {
+        Some(mark) => *mark,
+        None => 0,
+    }
+}
+
+fn is_forbidden(paper: &PaperRow, reviewer: &ReviewerRow, mark: i32) -> bool
+    ensures { result ≡ (int_eq mark (neg_ℤ (pos 1)) || do_share paper.now reviewer.now) }
+{
+    mark == -1 || do_share(paper, reviewer)
 }
 
 fn cap_of(tables: &Tables, paper: &PaperRow, reviewer: &ReviewerRow) -> Value
@@ -58,9 +66,9 @@ fn pair_of(
     paper: &PaperRow,
     reviewer_place: u32,
     reviewer: &ReviewerRow,
-    cell: Cell,
+    mark: i32,
 ) -> RulePair
-    requires cell { cell ≡ cell_of tables.now paper.now reviewer.now }
+    requires mark { mark ≡ mark_of tables.now paper.now.id reviewer.now.id }
     requires limits { KeepsLimits tables.now }
     ensures same { result ≡ pair_of tables.now paper_place paper.now reviewer_place reviewer.now }
     ensures within { IsWithin result }
@@ -71,7 +79,7 @@ fn pair_of(
         paper.id.text(),
         reviewer.id.text(),
     );
-    if cell.mark == 1 {
+    if mark == 1 {
         return RulePair {
             paper: paper_place,
             reviewer: reviewer_place,
@@ -96,9 +104,9 @@ fn add_pair(
     paper: &PaperRow,
     reviewer_place: u32,
     reviewer: &ReviewerRow,
-    cell: Cell,
+    mark: i32,
 ) -> Result<(), AllocError>
-    requires cell { cell ≡ cell_of tables.now paper.now reviewer.now }
+    requires mark { mark ≡ mark_of tables.now paper.now.id reviewer.now.id }
     requires limits { KeepsLimits tables.now }
     requires room { found.old.count < 2 ^ 32 }
     ensures count { OnOk result (found.new.count ≡ found.old.count + 1) }
@@ -108,28 +116,28 @@ fn add_pair(
     if found.count > MOST_PAIRS {
         return Ok(());
     }
-    let pair = pair_of(tables, paper_place, paper, reviewer_place, reviewer, cell);
+    let pair = pair_of(tables, paper_place, paper, reviewer_place, reviewer, mark);
     found.pairs.push(pair)?;
     Ok(())
 }
 
-// Adds the pair, if it is a candidate.
-fn add_candidate(
+// Adds the pair of a listed reviewer, if nothing forbids it.
+fn add_listed(
     found: &mut Found,
     tables: &Tables,
     paper_place: u32,
     paper: &PaperRow,
     reviewer_place: u32,
     reviewer: &ReviewerRow,
-    cell: Cell,
 ) -> Result<(), AllocError>
-    requires cell { cell ≡ cell_of tables.now paper.now reviewer.now }
+    requires listed { IsTrue (is_listed tables.now paper.now reviewer.now) }
     requires limits { KeepsLimits tables.now }
     requires room { found.old.count < 2 ^ 32 }
     ensures count { OnOk result (found.new.count ≤ found.old.count + 1) }
     ensures found { OnOk result ((pairs : List RulePair) → AreFound found.old pairs → AreFound found.new (pairs ++ candidate_at tables.now paper_place paper.now reviewer_place reviewer.now)) }
 {
-    if !is_candidate(tables, paper, reviewer, cell) {
+    let mark = mark_of(tables, paper, reviewer);
+    if is_forbidden(paper, reviewer, mark) {
         return Ok(());
     }
     add_pair(
@@ -139,26 +147,27 @@ fn add_candidate(
         paper,
         reviewer_place,
         reviewer,
-        cell,
+        mark,
     )
 }
 
-// Adds the candidates of a paper.
+// Adds the candidates of a paper: it visits the reviewers that are listed for it, and no others.
 fn add_paper(
     found: &mut Found,
     tables: &Tables,
     place: u32,
     paper: &PaperRow,
-    cells: &[Cell],
+    listed: &[u32],
 ) -> Result<(), AllocError>
-    requires cells { cells.now ≡ map (cell_of tables.now paper.now) tables.now.reviewers }
+    requires listed { AreListed tables.now paper.now listed.now }
     requires limits { KeepsLimits tables.now }
     requires room { found.old.count ≤ 1500 * 1500 }
     ensures count { OnOk result (found.new.count ≤ found.old.count + 1500) }
     ensures found { OnOk result ((pairs : List RulePair) → AreFound found.old pairs → AreFound found.new (pairs ++ pairs_of_paper tables.now place paper.now 0 tables.now.reviewers)) }
 {
-    for (j, reviewer) in tables.reviewers.rows().iter().enumerate() {
-        add_candidate(found, tables, place, paper, j as u32, reviewer, cells[j])?;
+    let reviewers = tables.reviewers.rows();
+    for j in listed {
+        add_listed(found, tables, place, paper, *j, &reviewers[*j as usize])?;
     }
     Ok(())
 }
@@ -173,8 +182,8 @@ pub(crate) fn candidates(alloc: Global, tables: &Tables) -> Result<Found, AllocE
         pairs: Vec::new(alloc),
     };
     for (i, paper) in tables.papers.rows().iter().enumerate() {
-        let cells = cells_of(alloc, tables, paper)?;
-        add_paper(&mut found, tables, i as u32, paper, cells.as_slice())?;
+        let listed = listed_places(alloc, tables, paper)?;
+        add_paper(&mut found, tables, i as u32, paper, listed.as_slice())?;
     }
     Ok(found)
 }

@@ -2,11 +2,11 @@
 #![tactic(auto)]
 
 mod candidates;
-mod cells;
 mod conflict;
 mod edit;
 mod examples;
 mod fault;
+mod listed;
 mod loading;
 mod locks;
 mod next;

@@ -3,6 +3,7 @@ ghost use Rattle.std.specs.Prelude.{◌≢◌, IfOk};
 use crate::{Body, Edit, EditFault, Edited, How, LoadFault, TableName, Venue, load};
 use bid_import::Code;
 use edge_io::{MemoryFile, MemoryFolder};
+use match_rules::RulePair;
 use score_spec::Text;
 use std::alloc::Global;
 use std::test::Fail;
@@ -21,22 +22,30 @@ fn folder(alloc: Global, named: &[(&str, &str)]) -> Result<MemoryFolder, Fail> {
     Ok(MemoryFolder::new(files, Vec::new(alloc))?)
 }
 
+fn loaded(alloc: Global, named: &[(&str, &str)]) -> Result<Edited, Fail> {
+    let mut folder = folder(alloc, named)?;
+    let edited = load(alloc, &mut folder).ok().ok_or("not loaded")?;
+    Ok(edited)
+}
+
+const PAPERS: (&str, &str) = ("papers.csv", "p1,1,\np2,1,\n");
+
+const REVIEWERS: (&str, &str) = ("reviewers.csv", "r1,,0,1\nr2,,0,1\n");
+
 // Two papers and two reviewers, with a value for each pair; the settings name no source `other`.
 fn small(alloc: Global) -> Result<Edited, Fail> {
-    let mut folder = folder(
+    loaded(
         alloc,
         &[
-            ("papers.csv", "p1,1,\np2,1,\n"),
-            ("reviewers.csv", "r1,,0,1\nr2,,0,1\n"),
+            PAPERS,
+            REVIEWERS,
             (
                 "values-affinity.csv",
                 "p1,r1,1\np1,r2,0\np2,r1,0.8\np2,r2,0.5\n",
             ),
             ("values-other.csv", "p1,r1,no number\n"),
         ],
-    )?;
-    let edited = load(alloc, &mut folder).ok().ok_or("not loaded")?;
-    Ok(edited)
+    )
 }
 
 // A merge into another table than the settings.
@@ -72,6 +81,11 @@ fn is_bad(answer: Result<Edited, LoadFault>, name: &str, number: u64, code: Code
     }
 }
 
+fn is_pair(pair: &RulePair, paper: u32, reviewer: u32, score: i64, floor: u32, cap: u32) -> bool {
+    let places = pair.paper == paper && pair.reviewer == reviewer;
+    places && pair.score == score && pair.floor == floor && pair.cap == cap
+}
+
 #[test]
 fn a_folder_gives_its_rules(rt: HostRuntime) -> Result<(), Fail> {
     let edited = small(rt.alloc())?;
@@ -80,6 +94,80 @@ fn a_folder_gives_its_rules(rt: HostRuntime) -> Result<(), Fail> {
     assert_eq!(rt; pairs[0].score, 1_000_000);
     assert_eq!(rt; pairs[3].score, 500_000);
     assert_eq!(rt; pairs[3].cap, 10_000);
+    Ok(())
+}
+
+#[test]
+fn rows_of_unknown_ids_take_no_part(rt: HostRuntime) -> Result<(), Fail> {
+    let files = [
+        PAPERS,
+        REVIEWERS,
+        (
+            "values-affinity.csv",
+            "p1,a0,0.5\np1,r1,1\np9,r2,0.5\np9,z0,0.5\n",
+        ),
+        ("bids.csv", "p0,r1,High\np2,r2,High\np2,z0,High\n"),
+        ("marks.csv", "p0,r2,-1\np1,a0,1\np2,a0,-1\np9,r1,1\n"),
+        ("caps.csv", "p0,r1,0\np1,z0,0\n"),
+    ];
+    let edited = loaded(rt.alloc(), &files)?;
+    let pairs = edited.rules.pairs();
+    assert_eq!(rt; pairs.len(), 2);
+    assert!(rt; is_pair(&pairs[0], 0, 0, 1_000_000, 0, 10_000));
+    assert!(rt; is_pair(&pairs[1], 1, 1, 0, 0, 10_000));
+    Ok(())
+}
+
+#[test]
+fn a_lock_lists_its_pair_with_all_tickets(rt: HostRuntime) -> Result<(), Fail> {
+    let files = [
+        PAPERS,
+        REVIEWERS,
+        ("marks.csv", "p1,r2,1\np2,r1,1\n"),
+        ("caps.csv", "p2,r1,0\n"),
+    ];
+    let edited = loaded(rt.alloc(), &files)?;
+    let pairs = edited.rules.pairs();
+    assert_eq!(rt; pairs.len(), 2);
+    assert!(rt; is_pair(&pairs[0], 0, 1, 0, 10_000, 10_000));
+    assert!(rt; is_pair(&pairs[1], 1, 0, 0, 10_000, 10_000));
+    Ok(())
+}
+
+#[test]
+fn bids_are_a_source_too(rt: HostRuntime) -> Result<(), Fail> {
+    let files = [
+        (
+            "settings.toml",
+            "[[source]]\nname = \"affinity\"\nkind = \"values\"\nweight = 70\n\n[[source]]\nname = \"bid\"\nkind = \"bids\"\nweight = 30\n",
+        ),
+        PAPERS,
+        REVIEWERS,
+        ("values-affinity.csv", "p1,r1,1\n"),
+        ("bids.csv", "p1,r1,High\np1,r2,Low\np2,r1,Very High\n"),
+    ];
+    let edited = loaded(rt.alloc(), &files)?;
+    let pairs = edited.rules.pairs();
+    assert_eq!(rt; pairs.len(), 3);
+    assert!(rt; is_pair(&pairs[0], 0, 0, 850_000, 0, 10_000));
+    assert!(rt; is_pair(&pairs[1], 0, 1, -150_000, 0, 10_000));
+    assert!(rt; is_pair(&pairs[2], 1, 0, 300_000, 0, 10_000));
+    Ok(())
+}
+
+#[test]
+fn all_pairs_are_those_that_nothing_forbids(rt: HostRuntime) -> Result<(), Fail> {
+    let files = [
+        ("settings.toml", "pairs = \"all\"\n"),
+        ("papers.csv", "p1,1,u\np2,1,\n"),
+        ("reviewers.csv", "r1,u,0,1\nr2,,0,1\n"),
+        ("marks.csv", "p2,r2,-1\n"),
+    ];
+    let edited = loaded(rt.alloc(), &files)?;
+    let pairs = edited.rules.pairs();
+    assert_eq!(rt; pairs.len(), 2);
+    assert!(rt; is_pair(&pairs[0], 0, 1, 0, 0, 10_000));
+    assert!(rt; is_pair(&pairs[1], 1, 0, 0, 0, 10_000));
     Ok(())
 }
 

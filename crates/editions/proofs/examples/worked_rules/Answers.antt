@@ -1,4 +1,4 @@
-use Rattle.std.proofs.Common.{rules, refl}
+use Rattle.std.proofs.Common.{refl}
 use Rattle.score_spec.specs.Scores.{score_of}
 use Rattle.editions.specs.Candidates.{candidates}
 use Rattle.editions.specs.VenueRules.{rules_of}
