@@ -35,13 +35,6 @@ const OTHER_SOURCE: (&str, &str) = (
 
 const ALL_PAIRS: (&str, &str) = ("settings.toml", "pairs = \"all\"\n");
 
-// The files of a folder, and the pairs of the rules that they make.
-#[derive(Clone, Copy)]
-struct Case<'a> {
-    files: &'a [(&'a str, &'a str)],
-    pairs: &'a str,
-}
-
 fn folder(
     alloc: Global,
     files: &[(&str, &str)],
@@ -91,15 +84,10 @@ fn rules_of(alloc: Global, pairs: &str) -> Result<String, AllocError> {
     Ok(text)
 }
 
-// Whether each case makes its rules.
-fn all_make(alloc: Global, cases: &[Case]) -> Result<bool, AllocError> {
-    for case in cases {
-        let text = rules_of(alloc, case.pairs)?;
-        if served(alloc, case.files, text.as_str())? != Some(Status::Done) {
-            return Ok(false);
-        }
-    }
-    Ok(true)
+// Whether the files of a folder make the rules with these pairs.
+fn makes(alloc: Global, files: &[(&str, &str)], pairs: &str) -> Result<bool, AllocError> {
+    let text = rules_of(alloc, pairs)?;
+    Ok(served(alloc, files, text.as_str())? == Some(Status::Done))
 }
 
 // The status of the small folder where its read of this number fails, where this text was written.
@@ -151,11 +139,8 @@ fn push_pairs(alloc: Global, text: &mut String, paper: u32) -> Result<(), AllocE
 
 #[test]
 fn the_small_folder_makes_the_shipped_rules(rt: HostRuntime) -> Result<(), Fail> {
-    let cases = [Case {
-        files: &[SETTINGS, PAPERS, REVIEWERS, VALUES],
-        pairs: PAIRS,
-    }];
-    assert!(rt; all_make(rt.alloc(), &cases)?);
+    let files = [SETTINGS, PAPERS, REVIEWERS, VALUES];
+    assert!(rt; makes(rt.alloc(), &files, PAIRS)?);
     Ok(())
 }
 
@@ -227,33 +212,23 @@ fn the_last_row_of_a_pair_stands(rt: HostRuntime) -> Result<(), Fail> {
         "values-affinity.csv",
         "paper,reviewer,value\np1,r1,0.5\np1,r1,0.7\n",
     );
-    let cases = [Case {
-        files: &[PAPERS, REVIEWERS, values],
-        pairs: "pairs 1\n0 0 700000 0 10000\n",
-    }];
-    assert!(rt; all_make(rt.alloc(), &cases)?);
+    let pairs = "pairs 1\n0 0 700000 0 10000\n";
+    assert!(rt; makes(rt.alloc(), &[PAPERS, REVIEWERS, values], pairs)?);
     Ok(())
 }
 
 #[test]
 fn a_mark_locks_a_pair(rt: HostRuntime) -> Result<(), Fail> {
+    let alloc = rt.alloc();
     let mark = ("marks.csv", "p1,r1,1\n");
+    let pairs = "pairs 1\n0 0 0 10000 10000\n";
+    assert!(rt; makes(alloc, &[PAPERS, REVIEWERS, mark], pairs)?);
     let caps = ("caps.csv", "p1,r1,0\np2,r2,0\n");
-    let cases = [
-        Case {
-            files: &[PAPERS, REVIEWERS, mark],
-            pairs: "pairs 1\n0 0 0 10000 10000\n",
-        },
-        Case {
-            files: &[PAPERS, REVIEWERS, mark, caps],
-            pairs: "pairs 1\n0 0 0 10000 10000\n",
-        },
-        Case {
-            files: &[SETTINGS, PAPERS, REVIEWERS, VALUES, mark, caps],
-            pairs: "pairs 4\n0 0 1000000 10000 10000\n0 1 0 0 7000\n1 0 800000 0 7000\n1 1 500000 0 0\n",
-        },
-    ];
-    assert!(rt; all_make(rt.alloc(), &cases)?);
+    assert!(rt; makes(alloc, &[PAPERS, REVIEWERS, mark, caps], pairs)?);
+    let files = [SETTINGS, PAPERS, REVIEWERS, VALUES, mark, caps];
+    let pairs =
+        "pairs 4\n0 0 1000000 10000 10000\n0 1 0 0 7000\n1 0 800000 0 7000\n1 1 500000 0 0\n";
+    assert!(rt; makes(alloc, &files, pairs)?);
     Ok(())
 }
 
@@ -261,61 +236,42 @@ fn a_mark_locks_a_pair(rt: HostRuntime) -> Result<(), Fail> {
 fn sources_have_weights_and_defaults(rt: HostRuntime) -> Result<(), Fail> {
     let values = ("values-affinity.csv", "p1,r1,0.5\np2,r2,1\n");
     let bids = ("bids.csv", "p1,r1,High\np1,r2,Very Low\n");
-    let cases = [Case {
-        files: &[TWO_SOURCES, PAPERS, REVIEWERS, values, bids],
-        pairs: "pairs 3\n0 0 500000 0 10000\n0 1 -230000 0 10000\n1 1 640000 0 10000\n",
-    }];
-    assert!(rt; all_make(rt.alloc(), &cases)?);
+    let files = [TWO_SOURCES, PAPERS, REVIEWERS, values, bids];
+    let pairs = "pairs 3\n0 0 500000 0 10000\n0 1 -230000 0 10000\n1 1 640000 0 10000\n";
+    assert!(rt; makes(rt.alloc(), &files, pairs)?);
     Ok(())
 }
 
 #[test]
 fn files_of_no_source_are_not_read(rt: HostRuntime) -> Result<(), Fail> {
+    let alloc = rt.alloc();
+    let other = ("values-text.csv", "p1\n");
+    let files = [SETTINGS, PAPERS, REVIEWERS, VALUES, other];
+    assert!(rt; makes(alloc, &files, PAIRS)?);
     let wrong = ("values-affinity.csv", "p1\n");
     let values = ("values-text.csv", VALUES.1);
-    let other = ("values-text.csv", "p1\n");
-    let cases = [
-        Case {
-            files: &[SETTINGS, PAPERS, REVIEWERS, VALUES, other],
-            pairs: PAIRS,
-        },
-        Case {
-            files: &[OTHER_SOURCE, PAPERS, REVIEWERS, wrong, values],
-            pairs: PAIRS,
-        },
-    ];
-    assert!(rt; all_make(rt.alloc(), &cases)?);
+    let files = [OTHER_SOURCE, PAPERS, REVIEWERS, wrong, values];
+    assert!(rt; makes(alloc, &files, PAIRS)?);
     Ok(())
 }
 
 #[test]
 fn rows_of_unknown_ids_take_no_part(rt: HostRuntime) -> Result<(), Fail> {
+    let alloc = rt.alloc();
     let values = (
         "values-affinity.csv",
         "p9,r1,1\np1,r1,1\np1,r2,0\np1,r9,1\np2,r1,0.8\np2,r2,0.5\n",
     );
-    let bids = ("bids.csv", "p9,r1,High\np1,r9,High\n");
-    let marks = ("marks.csv", "p9,r1,1\np1,r9,1\n");
-    let caps = ("caps.csv", "p9,r1,0.1\np1,r9,0.1\n");
-    let cases = [
-        Case {
-            files: &[SETTINGS, PAPERS, REVIEWERS, values],
-            pairs: PAIRS,
-        },
-        Case {
-            files: &[SETTINGS, PAPERS, REVIEWERS, VALUES, bids],
-            pairs: PAIRS,
-        },
-        Case {
-            files: &[SETTINGS, PAPERS, REVIEWERS, VALUES, marks],
-            pairs: PAIRS,
-        },
-        Case {
-            files: &[SETTINGS, PAPERS, REVIEWERS, VALUES, caps],
-            pairs: PAIRS,
-        },
+    assert!(rt; makes(alloc, &[SETTINGS, PAPERS, REVIEWERS, values], PAIRS)?);
+    let others = [
+        ("bids.csv", "p9,r1,High\np1,r9,High\n"),
+        ("marks.csv", "p9,r1,1\np1,r9,1\n"),
+        ("caps.csv", "p9,r1,0.1\np1,r9,0.1\n"),
     ];
-    assert!(rt; all_make(rt.alloc(), &cases)?);
+    for other in others {
+        let files = [SETTINGS, PAPERS, REVIEWERS, VALUES, other];
+        assert!(rt; makes(alloc, &files, PAIRS)?);
+    }
     Ok(())
 }
 
