@@ -59,4 +59,4 @@ IsFaultTold Usage fault old new = ⊥
 IsFaultTold ReadFault fault old new = fault ≡ load.Folder
 IsFaultTold WriteFault fault old new = Unit {0}
 IsFaultTold Refused fault old new = HasLine fault × Written old new (refusal_text fault)
-IsFaultTold Memory fault old new = Unit {0}
+IsFaultTold Memory fault old new = fault ≡ load.Memory

@@ -30,6 +30,7 @@ fn refuse_folder<K: Sink>(fault: &LoadFault, sink: &mut K) -> Status
 fn tell_fault<K: Sink>(fault: &LoadFault, sink: &mut K) -> Status
     ensures told { IsFaultTold result fault.now (told (K.taken sink.old)) (K.taken sink.new) }
     ensures cause { result ≡ Status.WriteFault → Rose (K.faults sink.old) (K.faults sink.new) }
+    ensures quiet { (result ≡ Status.ReadFault) ⊎ (result ≡ Status.Memory) → K.taken sink.new ≡ K.taken sink.old }
 {
     match *fault {
         LoadFault::Memory => Status::Memory,
@@ -46,6 +47,7 @@ pub(crate) fn serve_rules<F: Folder, K: Sink>(alloc: Global, folder: &mut F, sin
     ensures usage { result ≢ Status.Usage }
     ensures read_fault { result ≡ Status.ReadFault → Rose (F.faults folder.old) (F.faults folder.new) }
     ensures write_fault { result ≡ Status.WriteFault → Rose (K.faults sink.old) (K.faults sink.new) }
+    ensures quiet { (result ≡ Status.ReadFault) ⊎ (result ≡ Status.Memory) → K.taken sink.new ≡ K.taken sink.old }
 {
     match load(alloc, folder) {
         Ok(edited) => match write_rules(&edited.rules, sink) {

@@ -24,6 +24,7 @@ fn judge<K: Sink>(alloc: Global, rules: &Rules, answer: &Answer, sink: &mut K) -
     requires { IsCertificate rules.now answer.now }
     ensures judges { Judges result rules.now answer.now (told (K.taken sink.old)) (K.taken sink.new) }
     ensures cause { result ≡ Status.WriteFault → Rose (K.faults sink.old) (K.faults sink.new) }
+    ensures quiet { (result ≡ Status.ReadFault) ⊎ (result ≡ Status.Memory) → K.taken sink.new ≡ K.taken sink.old }
 {
     let Ok(mut scratch) = Scratch::new(alloc, rules) else {
         return Status::Memory;
@@ -73,6 +74,7 @@ fn check_text<S: Source, K: Sink>(alloc: Global, source: &mut S, sink: &mut K) -
     ensures usage { result ≢ Status.Usage }
     ensures read_fault { result ≡ Status.ReadFault → Rose (S.faults source.old) (S.faults source.new) }
     ensures write_fault { result ≡ Status.WriteFault → Rose (K.faults sink.old) (K.faults sink.new) }
+    ensures quiet { (result ≡ Status.ReadFault) ⊎ (result ≡ Status.Memory) → K.taken sink.new ≡ K.taken sink.old }
 {
     match read_certificate(alloc, source) {
         Ok(certificate) => judge(alloc, &certificate.rules, &certificate.answer, sink),
@@ -112,6 +114,13 @@ pub fn matcher<S: Source, K: Sink, F: Folder>(
     ensures folder_fault { Asks words.now Command.Rules → result ≡ Status.ReadFault → Rose (F.faults folder.old) (F.faults folder.new) }
 
     ensures write_fault { result ≡ Status.WriteFault → Rose (K.faults sink.old) (K.faults sink.new) }
+
+    // `check` alone reads from the source, and `rules` alone from the folder.
+    ensures source_kept { ¬ (Asks words.now Command.Check) → source.new ≡ source.old }
+    ensures folder_kept { ¬ (Asks words.now Command.Rules) → folder.new ≡ folder.old }
+
+    // Nothing is written where reading failed or memory was wanting.
+    ensures quiet { (result ≡ Status.ReadFault) ⊎ (result ≡ Status.Memory) → K.taken sink.new ≡ K.taken sink.old }
 {
     match read_words(alloc, words) {
         Ok(Command::Check) => check_text(alloc, source, sink),
