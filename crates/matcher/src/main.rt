@@ -5,6 +5,7 @@ use edge_io::{DirFolder, ReadSource, WriteSink};
 use matcher_cli::{Status, matcher};
 use std::alloc::AllocError;
 use std::env;
+use std::io::{BufWriter, Write};
 use std::process::ExitCode;
 
 // The words behind the program's name; none where one isn't text, since no such word is taken.
@@ -15,19 +16,28 @@ fn words_of(rt: &HostRuntime) -> Result<Vec<String>, AllocError> {
     }
 }
 
+// What was written last may fail only here.
+fn flushed<W: Write>(writer: &mut W, status: Status) -> Status {
+    match writer.flush() {
+        Ok(()) => status,
+        Err(_) => Status::WriteFault,
+    }
+}
+
 fn main(rt: HostRuntime) -> ExitCode {
     let Ok(words) = words_of(&rt) else {
         return ExitCode::from(Status::Memory.code());
     };
-    let mut source = ReadSource::new(rt.stdin());
-    let mut sink = WriteSink::new(rt.stdout());
-    let mut folder = DirFolder::new(&rt);
+    let Ok(mut writer) = BufWriter::new(rt.alloc(), rt.stdout()) else {
+        return ExitCode::from(Status::Memory.code());
+    };
     let status = matcher(
         rt.alloc(),
         words.as_slice(),
-        &mut source,
-        &mut sink,
-        &mut folder,
+        &mut ReadSource::new(rt.stdin()),
+        &mut WriteSink::new(&mut writer),
+        &mut DirFolder::new(&rt),
     );
+    let status = flushed(&mut writer, status);
     ExitCode::from(status.code())
 }
