@@ -1,5 +1,6 @@
 -- Tables of pairs: what a put does to look-ups, to the order and to the count.
-use Rattle.std.proofs.Common.{◌≡◌, ◌≢◌, ◌⊎◌, inl, inr, ℕ, ◌+◌, ◌≤◌, List, [], ◌∷◌, ◌++◌, append_assoc, length, Option, Some, None, Result, Ok, Err, Bool, true, false, true≢false, is_some, unwrap_or, refl, sym, ap, ap₂, ◌∙◌, arith}
+use Rattle.std.proofs.Common.{◌≡◌, ◌≢◌, ◌⊎◌, inl, inr, ℕ, ◌+◌, ◌≤◌, ◌==◌, ◌&&◌, not, List, [], ◌∷◌, ◌++◌, append_assoc, length, Option, Some, None, Result, Ok, Err, Bool, true, false, true≢false, is_some, unwrap_or, refl, sym, ap, ap₂, ◌∙◌, arith}
+use Rattle.std.proofs.lemmas.Bool.{eqb-false}
 use Rattle.std.specs.Prelude.{if◌then◌else◌, filter, OnOk, OnErr}
 use Rattle.std.specs.Option.{option_map}
 use Rattle.std.specs.Ordering.{is_eq}
@@ -33,6 +34,15 @@ differ a b ne = on (is_eq (id_cmp a b)) refl
     on : (t : Bool) → is_eq (id_cmp a b) ≡ t → t ≡ false
     on true e = absurd (ne (equal_same a b e))
     on false e = refl
+
+-- a pair that finds room adds no row too many
+pub has-room : (count pairs : ℕ) (has : Bool) (more : ℕ) → count ≡ pairs → count ≤ 250000 → ((pairs == 250000) && not has) ≡ false → more ≡ (if has then 0 else 1) → count + more ≤ 250000
+has-room count pairs true more is few room m = omega (arith, is, few, m)
+has-room count pairs false more is few room m = on (pairs == 250000) refl room
+  where
+    on : (full : Bool) → (pairs == 250000) ≡ full → (full && true) ≡ false → count + more ≤ 250000
+    on true e room = absurd cc
+    on false e room = let less : pairs ≢ 250000 = eqb-false pairs 250000 e in omega (arith, is, few, m, less)
 
 module _ {V : Type 0} where
   abbrev pub entry : List ℕ → V → Entry V
@@ -138,12 +148,12 @@ module _ {V : Type 0} where
 
   -- a value that a place of the map was left with
 
-  pub put-through : {E : Type 0} (r : Result (Unit {0}) E) (change : V → V) (id : List ℕ) (first old new : V) (table after : Entries V) → value_of table id ≡ Some old → after ≡ put_value id new table
+  pub put-through : {A E : Type 0} (r : Result A E) (change : V → V) (id : List ℕ) (first old new : V) (table after : Entries V) → value_of table id ≡ Some old → after ≡ put_value id new table
       → OnOk r (new ≡ change old) → OnOk r (after ≡ put_value id (change (unwrap_or (value_of table id) first)) table)
   put-through (Ok u) change id first old new table after found ends put = rw found (ends ∙ ap (λ value. put_value id value table) put)
   put-through (Err e) change id first old new table after found ends put = tt
 
-  pub kept-through : {E : Type 0} (r : Result (Unit {0}) E) (id : List ℕ) (old new : V) (table after : Entries V) → Ascend entry_id table → value_of table id ≡ Some old → after ≡ put_value id new table
+  pub kept-through : {A E : Type 0} (r : Result A E) (id : List ℕ) (old new : V) (table after : Entries V) → Ascend entry_id table → value_of table id ≡ Some old → after ≡ put_value id new table
       → OnErr r (new ≡ old) → OnErr r (after ≡ table)
   kept-through (Ok u) id old new table after up found ends kept = tt
   kept-through (Err e) id old new table after up found ends kept = ends ∙ ap (λ value. put_value id value table) kept ∙ put-same id old table up found

@@ -1,4 +1,4 @@
-ghost use Rattle.std.specs.Prelude.{◌≡◌, ◌==◌, [], length, None, IsSome, IsOk, IfOk, OnOk, OnErr};
+ghost use Rattle.std.specs.Prelude.{◌≡◌, ◌==◌, [], length, None, is_some, IsSome, IsOk, if◌then◌else◌, IfOk, OnOk, OnErr};
 ghost use Rattle.std.specs.Borrow.{sem};
 ghost use Rattle.std.specs.Option.{option_copied, option_copied_mut};
 ghost use Rattle.score_spec.specs.PairTables.{entry_id, put_value, value_of, without};
@@ -102,20 +102,25 @@ impl<V> ById<V> {
         self.map.get_mut(id)
     }
 
-    /// Puts a value for an id, in place of the one that it had. Memory is taken where the id is new.
-    pub(crate) fn put(&mut self, alloc: Global, id: &str, value: V) -> Result<(), AllocError>
+    /// Puts a value for an id, in place of the one that it had, and answers how many ids were added. Memory is taken where
+    /// the id is new.
+    pub(crate) fn put(&mut self, alloc: Global, id: &str, value: V) -> Result<u32, AllocError>
     where
         V: Drop,
         ensures put { OnOk result (self.new ≡ put_value id.now value self.old) }
+        ensures more { IfOk result (λ more. more ≡ (if is_some (value_of self.old id.now) then 0 else 1)) }
         ensures known { IsSome (value_of self.old id.now) → IsOk result }
         ensures kept { OnErr result (self.new ≡ self.old) }
     {
         match self.get_mut(id) {
             Some(place) => {
                 *place = value;
-                Ok(())
+                Ok(0)
             }
-            None => self.add(alloc, id, value),
+            None => {
+                self.add(alloc, id, value)?;
+                Ok(1)
+            }
         }
     }
 

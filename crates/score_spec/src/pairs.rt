@@ -1,4 +1,4 @@
-ghost use Rattle.std.specs.Prelude.{◌≡◌, ◌==◌, ◌↔◌, ◌≤◌, [], Some, Err, if◌then◌else◌, IsSome, IsOk, IfOk, OnOk, OnErr};
+ghost use Rattle.std.specs.Prelude.{◌≡◌, ◌==◌, ◌&&◌, not, ◌↔◌, ◌≤◌, [], Some, Err, if◌then◌else◌, IsSome, IsOk, IfOk, OnOk, OnErr};
 ghost use Rattle.std.specs.Option.{option_copied};
 ghost use Rattle.score_spec.specs.PairTables.{ArePairs, HasNoRoom, OthersStay, has_pair, pair_count, put_pair, value_of_pair};
 
@@ -16,15 +16,16 @@ pub enum ScoresFault {
     Memory,
 }
 
-// Puts a value for a paper and a reviewer.
+// Puts a value for a paper and a reviewer, and answers how many pairs were added.
 pub(crate) fn put_in<V: Drop>(
     alloc: Global,
     papers: &mut ById<ById<V>>,
     paper: &str,
     reviewer: &str,
     value: V,
-) -> Result<(), AllocError>
+) -> Result<u32, AllocError>
     ensures put { OnOk result (papers.new ≡ put_pair paper.now reviewer.now value papers.old) }
+    ensures more { IfOk result (λ more. more ≡ (if has_pair papers.old paper.now reviewer.now then 0 else 1)) }
     ensures known { IsSome (value_of_pair papers.old paper.now reviewer.now) → IsOk result }
     ensures kept { OnErr result (papers.new ≡ papers.old) }
 {
@@ -33,7 +34,8 @@ pub(crate) fn put_in<V: Drop>(
     }
     let mut reviewers = ById::new(alloc);
     reviewers.put(alloc, reviewer, value)?;
-    papers.put(alloc, paper, reviewers)
+    papers.put(alloc, paper, reviewers)?;
+    Ok(1)
 }
 
 /// Values of pairs, at most 250,000, by paper and then by reviewer, in the order of their ids' bytes. Contracts see
@@ -97,14 +99,11 @@ impl<V> PairTable<V> {
         self.papers.get(paper)?.get(reviewer)
     }
 
-    // How many rows a value for the pair adds.
-    fn more_for(&self, paper: &str, reviewer: &str) -> u32
-        ensures { result ≡ (if has_pair self.now paper.now reviewer.now then 0 else 1) }
+    // Whether the pair has no value, and as many pairs have one as may.
+    fn has_no_room(&self, paper: &str, reviewer: &str) -> bool
+        ensures { result ≡ ((pair_count self.now == 250000) && not (has_pair self.now paper.now reviewer.now)) }
     {
-        match self.get(paper, reviewer) {
-            Some(_) => 0,
-            None => 1,
-        }
+        self.count == 250_000 && self.get(paper, reviewer).is_none()
     }
 
     /// Puts a value for a pair, in place of the one that it had. Takes memory where the pair is new.
@@ -118,8 +117,7 @@ impl<V> PairTable<V> {
         ensures known { IsSome (value_of_pair self.old paper reviewer) → IsOk result }
         ensures kept { OnErr result (self.new ≡ self.old) }
     {
-        let more = self.more_for(paper.text(), reviewer.text());
-        if self.count + more > 250_000 {
+        if self.has_no_room(paper.text(), reviewer.text()) {
             return Err(ScoresFault::TooMany);
         }
         match put_in(
@@ -129,7 +127,7 @@ impl<V> PairTable<V> {
             reviewer.text(),
             value,
         ) {
-            Ok(()) => {
+            Ok(more) => {
                 self.count += more;
                 Ok(())
             }

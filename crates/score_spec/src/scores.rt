@@ -35,7 +35,7 @@ fn put_in(
     let mut table = PairTable::new(alloc);
     table.put(paper, reviewer, value)?;
     match tables.put(alloc, source, table) {
-        Ok(()) => Ok(()),
+        Ok(_) => Ok(()),
         Err(_) => Err(ScoresFault::Memory),
     }
 }
