@@ -5,6 +5,7 @@ ghost use Rattle.std.specs.Cmp.Lexicographic.{slice_cmp};
 ghost use Rattle.std.specs.List.{list_all};
 ghost use Rattle.std.specs.Ordering.{nat_cmp};
 ghost use Rattle.std.specs.Str.{chars};
+ghost use Rattle.std.specs.String.{string_bytes};
 ghost use Rattle.match_rules.specs.Id.{is_id, is_institution, is_id_char, is_institution_char, is_name};
 
 use std::alloc::{AllocError, Global};
@@ -63,6 +64,13 @@ impl PaperId {
         self.text.as_str()
     }
 
+    /// The text of the id, without taking memory.
+    pub fn into_string(self) -> String
+        ensures { string_bytes result ≡ self }
+    {
+        self.text
+    }
+
     /// An equal id.
     pub fn copy(&self, alloc: Global) -> Result<Self, AllocError>
         ensures same { IfOk result (λ id. id ≡ self.now) }
@@ -119,6 +127,13 @@ impl ReviewerId {
         ensures kept { is_id self.now ≡ true }
     {
         self.text.as_str()
+    }
+
+    /// The text of the id, without taking memory.
+    pub fn into_string(self) -> String
+        ensures { string_bytes result ≡ self }
+    {
+        self.text
     }
 
     /// An equal id.

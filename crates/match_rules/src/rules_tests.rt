@@ -379,8 +379,10 @@ fn answers_that_match(rt: HostRuntime) -> Result<(), Fail> {
 fn texts_of_ids(rt: HostRuntime) -> Result<(), Fail> {
     let paper = PaperId::read(rt.alloc(), "p1")?.copy(rt.alloc())?;
     assert_eq!(rt; paper.text(), "p1");
+    assert_eq!(rt; paper.into_string().as_str(), "p1");
     let reviewer = ReviewerId::read(rt.alloc(), "a;b")?.copy(rt.alloc())?;
     assert_eq!(rt; reviewer.text(), "a;b");
+    assert_eq!(rt; reviewer.into_string().as_str(), "a;b");
     let institution = Institution::read(rt.alloc(), "u")?.copy(rt.alloc())?;
     assert_eq!(rt; institution.text(), "u");
     assert!(rt; institution.cmp(&institution).is_eq());
