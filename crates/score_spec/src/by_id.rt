@@ -1,6 +1,7 @@
 ghost use Rattle.std.specs.Prelude.{◌≡◌, ◌==◌, [], length, None, is_some, IsSome, IsOk, if◌then◌else◌, IfOk, OnOk, OnErr};
 ghost use Rattle.std.specs.Borrow.{sem};
 ghost use Rattle.std.specs.Option.{option_copied, option_copied_mut};
+ghost use Rattle.std.specs.String.{string_bytes};
 ghost use Rattle.score_spec.specs.PairTables.{entry_id, put_value, value_of, without};
 ghost use Rattle.roster.specs.Table.{Ascend};
 ghost use Rattle.score_spec.specs.TextMaps.{entries_of};
@@ -102,25 +103,20 @@ impl<V> ById<V> {
         self.map.get_mut(id)
     }
 
-    /// Puts a value for an id, in place of the one that it had, and answers how many ids were added. Memory is taken where
-    /// the id is new.
-    pub(crate) fn put(&mut self, alloc: Global, id: &str, value: V) -> Result<u32, AllocError>
+    /// Puts a value for an id, in place of the one that it had, and answers how many ids were added: in logarithmic time,
+    /// and with memory only where the id is new.
+    pub(crate) fn put(&mut self, id: String, value: V) -> Result<u32, AllocError>
     where
         V: Drop,
-        ensures put { OnOk result (self.new ≡ put_value id.now value self.old) }
-        ensures more { IfOk result (λ more. more ≡ (if is_some (value_of self.old id.now) then 0 else 1)) }
-        ensures known { IsSome (value_of self.old id.now) → IsOk result }
+        ensures put { OnOk result (self.new ≡ put_value (string_bytes id) value self.old) }
+        ensures more { IfOk result (λ more. more ≡ (if is_some (value_of self.old (string_bytes id)) then 0 else 1)) }
+        ensures known { IsSome (value_of self.old (string_bytes id)) → IsOk result }
         ensures kept { OnErr result (self.new ≡ self.old) }
     {
-        match self.get_mut(id) {
-            Some(place) => {
-                *place = value;
-                Ok(0)
-            }
-            None => {
-                self.add(alloc, id, value)?;
-                Ok(1)
-            }
+        match self.map.insert(id, value) {
+            Ok(Some(_)) => Ok(0),
+            Ok(None) => Ok(1),
+            Err(_) => Err(AllocError),
         }
     }
 
@@ -133,24 +129,14 @@ impl<V> ById<V> {
     {
         self.map.remove(id);
     }
-
-    fn add(&mut self, alloc: Global, id: &str, value: V) -> Result<(), AllocError>
-    where
-        V: Drop,
-        ensures put { OnOk result (self.new ≡ put_value id.now value self.old) }
-        ensures kept { OnErr result (self.new ≡ self.old) }
-    {
-        let key = String::from_str(alloc, id)?;
-        self.map.insert(key, value)?;
-        Ok(())
-    }
 }
 
 impl<V: TableValue> TableValue for ById<V> {
     fn copy(&self, alloc: Global) -> Result<Self, AllocError> {
         let mut copy = ById::new(alloc);
         for (id, value) in self.iter() {
-            copy.put(alloc, id.as_str(), value.copy(alloc)?)?;
+            let key = String::from_str(alloc, id.as_str())?;
+            copy.put(key, value.copy(alloc)?)?;
         }
         Ok(copy)
     }

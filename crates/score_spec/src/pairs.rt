@@ -1,5 +1,6 @@
 ghost use Rattle.std.specs.Prelude.{◌≡◌, ◌==◌, ◌&&◌, not, ◌↔◌, ◌≤◌, [], Some, Err, if◌then◌else◌, IsSome, IsOk, IfOk, OnOk, OnErr};
 ghost use Rattle.std.specs.Option.{option_copied};
+ghost use Rattle.std.specs.String.{string_bytes};
 ghost use Rattle.score_spec.specs.PairTables.{ArePairs, HasNoRoom, OthersStay, has_pair, pair_count, put_pair, value_of_pair};
 
 use crate::by_id::{ById, TableValue};
@@ -21,20 +22,20 @@ pub(crate) fn put_in<V: Drop>(
     alloc: Global,
     papers: &mut ById<ById<V>>,
     paper: &str,
-    reviewer: &str,
+    reviewer: String,
     value: V,
 ) -> Result<u32, AllocError>
-    ensures put { OnOk result (papers.new ≡ put_pair paper.now reviewer.now value papers.old) }
-    ensures more { IfOk result (λ more. more ≡ (if has_pair papers.old paper.now reviewer.now then 0 else 1)) }
-    ensures known { IsSome (value_of_pair papers.old paper.now reviewer.now) → IsOk result }
+    ensures put { OnOk result (papers.new ≡ put_pair paper.now (string_bytes reviewer) value papers.old) }
+    ensures more { IfOk result (λ more. more ≡ (if has_pair papers.old paper.now (string_bytes reviewer) then 0 else 1)) }
+    ensures known { IsSome (value_of_pair papers.old paper.now (string_bytes reviewer)) → IsOk result }
     ensures kept { OnErr result (papers.new ≡ papers.old) }
 {
     if let Some(reviewers) = papers.get_mut(paper) {
-        return reviewers.put(alloc, reviewer, value);
+        return reviewers.put(reviewer, value);
     }
     let mut reviewers = ById::new(alloc);
-    reviewers.put(alloc, reviewer, value)?;
-    papers.put(alloc, paper, reviewers)?;
+    reviewers.put(reviewer, value)?;
+    papers.put(String::from_str(alloc, paper)?, reviewers)?;
     Ok(1)
 }
 
@@ -124,7 +125,7 @@ impl<V> PairTable<V> {
             self.alloc,
             &mut self.papers,
             paper.text(),
-            reviewer.text(),
+            reviewer.into_string(),
             value,
         ) {
             Ok(more) => {

@@ -15,6 +15,21 @@ use match_rules::{PaperId, ReviewerId};
 use std::alloc::{AllocError, Global};
 use std::marker::Model;
 
+// Puts the table of a source.
+fn put_table(
+    alloc: Global,
+    tables: &mut ById<PairTable<Value>>,
+    source: &str,
+    table: PairTable<Value>,
+) -> Result<(), AllocError>
+    ensures put { OnOk result (tables.new ≡ put_value source.now table tables.old) }
+    ensures kept { OnErr result (tables.new ≡ tables.old) }
+{
+    let name = String::from_str(alloc, source)?;
+    tables.put(name, table)?;
+    Ok(())
+}
+
 // Puts a value into the table of a source.
 fn put_in(
     alloc: Global,
@@ -34,8 +49,8 @@ fn put_in(
     }
     let mut table = PairTable::new(alloc);
     table.put(paper, reviewer, value)?;
-    match tables.put(alloc, source, table) {
-        Ok(_) => Ok(()),
+    match put_table(alloc, tables, source, table) {
+        Ok(()) => Ok(()),
         Err(_) => Err(ScoresFault::Memory),
     }
 }

@@ -34,7 +34,8 @@ fn add_reviewers<V>(
     ensures has { OnOk result ((p r : List ℕ) → has_pair union.new p r ≡ (has_pair union.old p r || (is_eq (id_cmp paper.now p) && is_some (value_of reviewers.now r)))) }
 {
     for (reviewer, _) in reviewers.iter() {
-        put_in(alloc, union, paper, reviewer.as_str(), ())?;
+        let reviewer = String::from_str(alloc, reviewer.as_str())?;
+        put_in(alloc, union, paper, reviewer, ())?;
     }
     Ok(())
 }

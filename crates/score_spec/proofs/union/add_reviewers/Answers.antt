@@ -11,7 +11,7 @@ loop-reviewer-preserved g c =
     let item = rest_more deref_pair c.loop-reviewer.reviewer-iterator c.next.new.self c.next.result (c.in-Some.reviewer, c.in-Some.field-0-1) c.in-Some.is c.next.ensures.steps in
     let id = string_bytes c.in-Some.reviewer.now in
     let ids = rw item at c.loop-reviewer.invariant.1 in
-    rw (c.in_ok-put_in.ensures.put, c.as_str.ensures.value) (
+    rw (c.in_ok-put_in.ensures.put, c.in_ok-reviewer.ensures.ok, c.as_str.ensures.value) (
       pairs-put c.args.paper.now id tt c.loop-reviewer.union c.requires.paper ids.0 c.loop-reviewer.invariant.0,
       ids.1,
       λ p r. reviewers-step c.args.paper.now id c.in-Some.field-0-1.now (entries_of c.next.new.self) tt c.loop-reviewer.union p r _ (rw item at c.loop-reviewer.invariant.2 p r),
