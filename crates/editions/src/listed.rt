@@ -122,13 +122,14 @@ fn places_in_rows(alloc: Global, tables: &Tables, paper: &PaperRow) -> Result<Ve
     Ok(places)
 }
 
-// Puts the places in ascending order, each once.
-fn put_in_order(places: &mut Vec<u32>)
-    ensures ascend { IsStrictlyIncreasing places.new.items }
-    ensures same { (place : ℕ) → Contains places.new.items place ↔ Contains places.old.items place }
+// Puts the places in ascending order, each once. The tables give them in runs that ascend, which the stable sort merges.
+fn put_in_order(places: &mut Vec<u32>) -> Result<(), AllocError>
+    ensures ascend { OnOk result (IsStrictlyIncreasing places.new.items) }
+    ensures same { OnOk result ((place : ℕ) → Contains places.new.items place ↔ Contains places.old.items place) }
 {
-    places.sort_unstable();
+    places.sort()?;
     places.dedup();
+    Ok(())
 }
 
 fn places_below(alloc: Global, count: u32) -> Result<Vec<u32>, AllocError>
@@ -155,6 +156,6 @@ pub(crate) fn listed_places(
         return places_below(alloc, reviewers.len() as u32);
     }
     let mut places = places_in_rows(alloc, tables, paper)?;
-    put_in_order(&mut places);
+    put_in_order(&mut places)?;
     Ok(places)
 }

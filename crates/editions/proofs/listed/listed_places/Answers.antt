@@ -25,4 +25,4 @@ returns c =
     let rows : c.rows-reviewers.result.now ≡ venue.reviewers = c.rows-reviewers.ensures.same ∙ ap (λ (v : VenueValue). v.reviewers) c.tables.view_is in
     let few : venue.settings.all_pairs ≡ false = cc in
     let up : Ascend reviewer_key venue.reviewers = subst (λ (xs : List ReviewerRow). Ascend reviewer_key xs) (ap (λ (v : VenueValue). v.reviewers) c.tables.view_is) c.rows-reviewers.ensures.ascend in
-    few-listed venue paper c.in_ok-places.places.items c.put_in_order.new.places.items few up c.in_ok-places.ensures.marks c.in_ok-places.ensures.places c.put_in_order.ensures.ascend c.put_in_order.ensures.same
+    few-listed venue paper c.in_ok-places.places.items c.put_in_order.new.places.items few up c.in_ok-places.ensures.marks c.in_ok-places.ensures.places c.in_ok-put_in_order.ensures.ascend c.in_ok-put_in_order.ensures.same

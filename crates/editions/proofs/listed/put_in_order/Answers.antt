@@ -7,9 +7,9 @@ use Rattle.editions.proofs.listed.put_in_order.Goals as goal
 pub returns : goal.returns
 returns c =
     let is = dedup_is _ _ _ c.dedup.ensures.filtered in
-    let moved = c.sort_unstable.ensures.permutation in
+    let moved = c.sort.ensures.permutation in
     record {
-      ascend = rw is (IsStrictlyIncreasing-dedup _ c.sort_unstable.ensures.sorted);
+      ascend = rw is (IsStrictlyIncreasing-dedup _ c.in_ok-sort.ensures.sorted);
       same = λ place. (
         λ h. Contains-permutation _ _ place (IsPermutation-sym _ _ moved) (Contains-from_dedup _ _ place (rw is at h)),
         λ h. rw is (Contains-dedup_nat _ place (Contains-permutation _ _ place moved h)),
