@@ -4,6 +4,7 @@ pub mod Spellings
 pub mod Grammar
 pub mod TextMaps
 pub mod PairTables
+pub mod PaperSums
 pub mod SourceTables
 pub mod Products
 pub mod PairKeys

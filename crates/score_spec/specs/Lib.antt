@@ -4,6 +4,7 @@ pub mod Reading
 pub mod Scanning
 pub mod Sources
 pub mod PairTables
+pub mod PaperScores
 pub mod Scores
 pub mod Examples
 pub mod TextMaps

@@ -6,7 +6,7 @@ use crate::numbers::Value;
 use crate::scores::Scores;
 use crate::spec::{BidWord, Kind, SourceSpec, Spec};
 
-fn value_of_word(words: &[BidWord], word: &str) -> Option<Value>
+pub(crate) fn value_of_word(words: &[BidWord], word: &str) -> Option<Value>
     ensures { result ≡ value_of_word words.now word.now }
 {
     for bid in words {
@@ -41,7 +41,7 @@ fn given_value(
 }
 
 // A weight times a value: at most 10,000 * 100,000.
-fn product(weight: i32, value: Value) -> i64
+pub(crate) fn product(weight: i32, value: Value) -> i64
     requires { IsWeight weight }
     ensures product { result ≡ weight *ℤ value }
     ensures low { neg_ℤ (pos 1000000000) ≤ℤ result }
