@@ -5,6 +5,7 @@ use Rattle.match_rules.specs.declared.rules.TheConstants.{MOST_TICKETS}
 use Rattle.match_rules.specs.Rules.{most_score}
 use Rattle.roster.specs.declared.rows.PaperRow.{PaperRow}
 use Rattle.roster.specs.declared.rows.ReviewerRow.{ReviewerRow}
+use Rattle.score_spec.specs.PaperScores.{PaperScoresValue}
 use Rattle.editions.specs.declared.candidates.Found.{Found}
 use Rattle.editions.specs.Candidates.{is_candidate, pair_of}
 use Rattle.editions.specs.Venues.{VenueValue}
@@ -26,3 +27,7 @@ pub record AreFound (found : Found) (pairs : List RulePair) : Type 0 where
 -- the pair at these places, where it is a candidate
 abbrev pub candidate_at : VenueValue → ℕ → PaperRow → ℕ → ReviewerRow → List RulePair
 candidate_at venue i paper j reviewer = if is_candidate venue paper reviewer then pair_of venue i paper j reviewer ∷ [] else []
+
+-- the scores of a paper's pairs
+abbrev pub scores_of : VenueValue → PaperRow → PaperScoresValue
+scores_of venue paper = record { spec = venue.settings.spec; scores = venue.scores; paper = paper.id }

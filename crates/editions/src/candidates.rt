@@ -3,7 +3,7 @@
 ghost use Rattle.std.specs.Prelude.{◌≡◌, ◌<◌, ◌≤◌, ◌+◌, ◌*◌, ◌^◌, ◌||◌, ◌++◌, ◌∷◌, [], List, pos, neg_ℤ, IfOk, IsTrue, OnOk};
 ghost use Rattle.std.specs.Ordering.{int_eq};
 ghost use Rattle.editions.specs.Candidates.{do_share, is_listed, pair_of, pairs_of_paper, candidates, tickets_of};
-ghost use Rattle.editions.specs.Found.{AreFound, IsWithin, candidate_at};
+ghost use Rattle.editions.specs.Found.{AreFound, IsWithin, candidate_at, scores_of};
 ghost use Rattle.editions.specs.Listed.{AreListed};
 ghost use Rattle.editions.specs.Venues.{IsCap, KeepsLimits, cap_of, mark_of};
 ghost use Rattle.match_rules.specs.declared.rules.RulePair.{RulePair};
@@ -13,7 +13,7 @@ use crate::listed::listed_places;
 use crate::tables::Tables;
 use match_rules::{MOST_TICKETS, RulePair};
 use roster::{PaperRow, ReviewerRow};
-use score_spec::{Value, score};
+use score_spec::{PaperScores, Value};
 use std::alloc::{AllocError, Global};
 
 pub(crate) const MOST_PAIRS: u64 = 250_000;
@@ -60,63 +60,72 @@ fn tickets_of(tables: &Tables, paper: &PaperRow, reviewer: &ReviewerRow) -> u32
     cap.tenthousandths() as u32
 }
 
+/// A paper at its place in its table.
+#[derive(Drop)]
+struct PaperAt<'a> {
+    place: u32,
+    row: &'a PaperRow,
+}
+
+/// A reviewer at its place in its table.
+#[derive(Drop)]
+struct ReviewerAt<'a> {
+    place: u32,
+    row: &'a ReviewerRow,
+}
+
 fn pair_of(
     tables: &Tables,
-    paper_place: u32,
-    paper: &PaperRow,
-    reviewer_place: u32,
-    reviewer: &ReviewerRow,
+    scores: &PaperScores,
+    paper: &PaperAt,
+    reviewer: &ReviewerAt,
     mark: i32,
 ) -> RulePair
-    requires mark { mark ≡ mark_of tables.now paper.now.id reviewer.now.id }
+    requires mark { mark ≡ mark_of tables.now paper.now.row.now.id reviewer.now.row.now.id }
+    requires scores { scores.now ≡ scores_of tables.now paper.now.row.now }
     requires limits { KeepsLimits tables.now }
-    ensures same { result ≡ pair_of tables.now paper_place paper.now reviewer_place reviewer.now }
+    ensures same { result ≡ pair_of tables.now paper.now.place paper.now.row.now reviewer.now.place reviewer.now.row.now }
     ensures within { IsWithin result }
 {
-    let score = score(
-        tables.settings.spec(),
-        tables.scores,
-        paper.id.text(),
-        reviewer.id.text(),
-    );
+    let score = scores.score(reviewer.row.id.text());
     if mark == 1 {
         return RulePair {
-            paper: paper_place,
-            reviewer: reviewer_place,
+            paper: paper.place,
+            reviewer: reviewer.place,
             score,
             floor: MOST_TICKETS,
             cap: MOST_TICKETS,
         };
     }
     RulePair {
-        paper: paper_place,
-        reviewer: reviewer_place,
+        paper: paper.place,
+        reviewer: reviewer.place,
         score,
         floor: 0,
-        cap: tickets_of(tables, paper, reviewer),
+        cap: tickets_of(tables, paper.row, reviewer.row),
     }
 }
 
 fn add_pair(
     found: &mut Found,
     tables: &Tables,
-    paper_place: u32,
-    paper: &PaperRow,
-    reviewer_place: u32,
-    reviewer: &ReviewerRow,
+    scores: &PaperScores,
+    paper: &PaperAt,
+    reviewer: &ReviewerAt,
     mark: i32,
 ) -> Result<(), AllocError>
-    requires mark { mark ≡ mark_of tables.now paper.now.id reviewer.now.id }
+    requires mark { mark ≡ mark_of tables.now paper.now.row.now.id reviewer.now.row.now.id }
+    requires scores { scores.now ≡ scores_of tables.now paper.now.row.now }
     requires limits { KeepsLimits tables.now }
     requires room { found.old.count < 2 ^ 32 }
     ensures count { OnOk result (found.new.count ≡ found.old.count + 1) }
-    ensures found { OnOk result ((pairs : List RulePair) → AreFound found.old pairs → AreFound found.new (pairs ++ pair_of tables.now paper_place paper.now reviewer_place reviewer.now ∷ [])) }
+    ensures found { OnOk result ((pairs : List RulePair) → AreFound found.old pairs → AreFound found.new (pairs ++ pair_of tables.now paper.now.place paper.now.row.now reviewer.now.place reviewer.now.row.now ∷ [])) }
 {
     found.count += 1;
     if found.count > MOST_PAIRS {
         return Ok(());
     }
-    let pair = pair_of(tables, paper_place, paper, reviewer_place, reviewer, mark);
+    let pair = pair_of(tables, scores, paper, reviewer, mark);
     found.pairs.push(pair)?;
     Ok(())
 }
@@ -125,49 +134,46 @@ fn add_pair(
 fn add_listed(
     found: &mut Found,
     tables: &Tables,
-    paper_place: u32,
-    paper: &PaperRow,
-    reviewer_place: u32,
-    reviewer: &ReviewerRow,
+    scores: &PaperScores,
+    paper: &PaperAt,
+    reviewer: &ReviewerAt,
 ) -> Result<(), AllocError>
-    requires listed { IsTrue (is_listed tables.now paper.now reviewer.now) }
+    requires listed { IsTrue (is_listed tables.now paper.now.row.now reviewer.now.row.now) }
+    requires scores { scores.now ≡ scores_of tables.now paper.now.row.now }
     requires limits { KeepsLimits tables.now }
     requires room { found.old.count < 2 ^ 32 }
     ensures count { OnOk result (found.new.count ≤ found.old.count + 1) }
-    ensures found { OnOk result ((pairs : List RulePair) → AreFound found.old pairs → AreFound found.new (pairs ++ candidate_at tables.now paper_place paper.now reviewer_place reviewer.now)) }
+    ensures found { OnOk result ((pairs : List RulePair) → AreFound found.old pairs → AreFound found.new (pairs ++ candidate_at tables.now paper.now.place paper.now.row.now reviewer.now.place reviewer.now.row.now)) }
 {
-    let mark = mark_of(tables, paper, reviewer);
-    if is_forbidden(paper, reviewer, mark) {
+    let mark = mark_of(tables, paper.row, reviewer.row);
+    if is_forbidden(paper.row, reviewer.row, mark) {
         return Ok(());
     }
-    add_pair(
-        found,
-        tables,
-        paper_place,
-        paper,
-        reviewer_place,
-        reviewer,
-        mark,
-    )
+    add_pair(found, tables, scores, paper, reviewer, mark)
 }
 
 // Adds the candidates of a paper: it visits the reviewers that are listed for it, and no others.
 fn add_paper(
     found: &mut Found,
     tables: &Tables,
-    place: u32,
-    paper: &PaperRow,
+    scores: &PaperScores,
+    paper: &PaperAt,
     listed: &[u32],
 ) -> Result<(), AllocError>
-    requires listed { AreListed tables.now paper.now listed.now }
+    requires listed { AreListed tables.now paper.now.row.now listed.now }
+    requires scores { scores.now ≡ scores_of tables.now paper.now.row.now }
     requires limits { KeepsLimits tables.now }
     requires room { found.old.count ≤ 1500 * 1500 }
     ensures count { OnOk result (found.new.count ≤ found.old.count + 1500) }
-    ensures found { OnOk result ((pairs : List RulePair) → AreFound found.old pairs → AreFound found.new (pairs ++ pairs_of_paper tables.now place paper.now 0 tables.now.reviewers)) }
+    ensures found { OnOk result ((pairs : List RulePair) → AreFound found.old pairs → AreFound found.new (pairs ++ pairs_of_paper tables.now paper.now.place paper.now.row.now 0 tables.now.reviewers)) }
 {
     let reviewers = tables.reviewers.rows();
     for j in listed {
-        add_listed(found, tables, place, paper, *j, &reviewers[*j as usize])?;
+        let reviewer = ReviewerAt {
+            place: *j,
+            row: &reviewers[*j as usize],
+        };
+        add_listed(found, tables, scores, paper, &reviewer)?;
     }
     Ok(())
 }
@@ -181,9 +187,15 @@ pub(crate) fn candidates(alloc: Global, tables: &Tables) -> Result<Found, AllocE
         count: 0,
         pairs: Vec::new(alloc),
     };
-    for (i, paper) in tables.papers.rows().iter().enumerate() {
-        let listed = listed_places(alloc, tables, paper)?;
-        add_paper(&mut found, tables, i as u32, paper, listed.as_slice())?;
+    for (i, row) in tables.papers.rows().iter().enumerate() {
+        let listed = listed_places(alloc, tables, row)?;
+        let spec = tables.settings.spec();
+        let scores = PaperScores::new(alloc, spec, tables.scores, row.id.text())?;
+        let paper = PaperAt {
+            place: i as u32,
+            row,
+        };
+        add_paper(&mut found, tables, &scores, &paper, listed.as_slice())?;
     }
     Ok(found)
 }

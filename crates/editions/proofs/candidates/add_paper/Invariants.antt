@@ -9,5 +9,5 @@ invariant-loop-j l = record {
   count : l.found.count ≤ l.initial.found.count + l.j-index;
   found : (pairs : List RulePair) → AreFound l.initial.found pairs
       → (done : List RulePair) × AreFound l.found done
-      × (done ++ pairs_at l.tables l.place l.paper (drop l.j-index l.listed) ≡ pairs ++ pairs_at l.tables l.place l.paper l.listed);
+      × (done ++ pairs_at l.tables l.paper.place l.paper.row.now (drop l.j-index l.listed) ≡ pairs ++ pairs_at l.tables l.paper.place l.paper.row.now l.listed);
 }

@@ -10,7 +10,7 @@ pub returns : goal.returns
 unfolding candidates
 returns c =
     let venue = c.args.tables.now in
-    let rows : c.rows-paper-items.result.now ≡ venue.papers = c.rows-paper-items.ensures.same ∙ ap (λ (v : VenueValue). v.papers) c.tables.view_is in
+    let rows : c.rows-row-items.result.now ≡ venue.papers = c.rows-row-items.ensures.same ∙ ap (λ (v : VenueValue). v.papers) c.tables.view_is in
     let le : length venue.papers ≤ c.loop-i.i = omega (arith, ap length rows) in
     let before = c.loop-i.invariant.found in
     subst (λ (pairs : List RulePair). AreFound c.loop-i.found pairs) (papers-done venue c.loop-i.i venue.papers before.0 _ le before.2) before.1
