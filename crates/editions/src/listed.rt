@@ -13,10 +13,12 @@ use roster::{PaperRow, Reviewers};
 use score_spec::{ById, PairTable, Value};
 use std::alloc::{AllocError, Global};
 
+// Lists the reviewer who has the id. Rows mostly name reviewers that follow one another, so the guess is the next place.
 fn list_id(places: &mut Vec<u32>, reviewers: &Reviewers, id: &str) -> Result<(), AllocError>
     ensures { OnOk result (places.new.items ≡ places.old.items ++ place_with reviewers.now id.now) }
 {
-    if let Some(place) = reviewers.place_of(id) {
+    let next = places.last().map_or(0, |place| place.saturating_add(1));
+    if let Some(place) = reviewers.place_from_guess(next, id) {
         places.push(place)?;
     }
     Ok(())

@@ -1,5 +1,5 @@
 -- Rows in ascending order of their keys: what a place says of look-ups, and what a put does.
-use Rattle.std.proofs.Common.{◌≡◌, ◌≢◌, ℕ, suc, zero, ◌+◌, ◌<◌, ◌≤◌, List, [], ◌∷◌, ◌++◌, length, take, drop, get_or, set, Option, Some, None, Result, Ok, Err, false, refl, sym, ap, ◌∙◌, subst, arith, length-append, length-take}
+use Rattle.std.proofs.Common.{◌≡◌, ◌≢◌, ℕ, suc, zero, ◌+◌, ◌<◌, ◌≤◌, List, [], ◌∷◌, ◌++◌, length, take, drop, get_or, set, Option, Some, None, Result, Ok, Err, true, false, refl, sym, ap, ◌∙◌, subst, arith, length-append, length-take}
 use Rattle.std.proofs.Math.Seq.{take-append_seam, drop-append_seam}
 use Rattle.std.proofs.Math.ListN.{length-set}
 use Rattle.std.proofs.lemmas.List.{take-append-drop}
@@ -184,7 +184,7 @@ module _ {R : Type 0} (key : R → List ℕ) where
       first [] above = above.0
       first (g ∷ gs) above = first gs above.1
 
-  is_at : (id : List ℕ) (rows : List R) (i : ℕ) (d : R) → Ascend key rows → i < length rows → id_cmp (key (get_or rows i d)) id ≡ Equal → IsAt key id rows i
+  pub is_at : (id : List ℕ) (rows : List R) (i : ℕ) (d : R) → Ascend key rows → i < length rows → id_cmp (key (get_or rows i d)) id ≡ Equal → IsAt key id rows i
   is_at id rows i d up lt here =
       let parts = split-at i rows d lt in
       let row = get_or rows i d in
@@ -216,6 +216,16 @@ module _ {R : Type 0} (key : R → List ℕ) where
 
   pub found_place : (id : List ℕ) (rows : List R) (i : ℕ) → IsAt key id rows i → place_of key id rows ≡ Some i
   found_place id rows i at = ap (place_of key id) at.split ∙ place-at id at.front at.back at.row at.below at.here ∙ ap Some (sym at.count)
+
+  pub place-of-row : (id : List ℕ) (rows : List R) (i : ℕ) (row : R) → Ascend key rows → i < length rows → row ≡ get_or rows i row → is_eq (id_cmp (key row) id) ≡ true → place_of key id rows ≡ Some i
+  place-of-row id rows i row up lt read same =
+      let here : id_cmp (key (get_or rows i row)) id ≡ Equal = subst (λ x. id_cmp (key x) id ≡ Equal) read (on (id_cmp (key row) id) same) in
+      found_place id rows i (is_at id rows i row up lt here)
+    where
+      on : (o : Ordering) → is_eq o ≡ true → o ≡ Equal
+      on Less e = absurd cc
+      on Equal e = refl
+      on Greater e = absurd cc
 
   pub found_row : (id : List ℕ) (rows : List R) (i : ℕ) (d : R) → IsAt key id rows i → (i < length rows) × (row_of key id rows ≡ Some (get_or rows i d))
   found_row id rows i d at =

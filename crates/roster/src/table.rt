@@ -1,4 +1,4 @@
-ghost use Rattle.std.specs.Prelude.{◌≡◌, [], ◌<◌, ◌≤◌, ◌↔◌, ◌≢◌, List, ℕ, length, slice_get, Some, None, Err, IsSome, IsOk, IfOk, IfErr, OnOk, OnErr};
+ghost use Rattle.std.specs.Prelude.{◌≡◌, IsTrue, [], ◌<◌, ◌≤◌, ◌↔◌, ◌≢◌, List, ℕ, length, slice_get, Some, None, Err, IsSome, IsOk, IfOk, IfErr, OnOk, OnErr};
 ghost use Rattle.std.specs.Option.{option_copied};
 ghost use Rattle.std.specs.Ordering.{nat_cmp};
 ghost use Rattle.std.specs.Cmp.Lexicographic.{slice_cmp};
@@ -58,6 +58,17 @@ fn find<R: Row>(rows: &[R], id: &str) -> Result<usize, usize>
             ensures { result ≡ slice_cmp nat_cmp (R.key row.now) id.entry.now }
         { row.key().cmp(id) },
     )
+}
+
+// Whether a row at this place has this key.
+fn has_at<R: Row>(rows: &[R], place: u32, id: &str) -> bool
+    requires { Ascend R.key rows.now }
+    ensures { IsTrue result → place_of R.key id.now rows.now ≡ Some place }
+{
+    match rows.get(place as usize) {
+        Some(row) => row.key().cmp(id).is_eq(),
+        None => false,
+    }
 }
 
 // Writes a row over the one that has its key.
@@ -149,6 +160,16 @@ impl<R: Row> Table<R> {
             Ok(place) => Some(place as u32),
             Err(_) => None,
         }
+    }
+
+    /// The place of a key, as `place_of` gives it: by one comparison where the guess is right, else in logarithmic time.
+    pub fn place_from_guess(&self, guess: u32, id: &str) -> Option<u32>
+        ensures place { result ≡ place_of R.key id.now self.now }
+    {
+        if has_at(self.rows.as_slice(), guess, id) {
+            return Some(guess);
+        }
+        self.place_of(id)
     }
 
     /// The row at a place.

@@ -28,6 +28,9 @@ fn the_last_row_of_an_id_stands(rt: HostRuntime) -> Result<(), Fail> {
     assert_eq!(rt; found.authors.as_slice().len(), 1);
     assert_eq!(rt; papers.place_of("p2"), Some(1));
     assert_eq!(rt; papers.place_of("p3"), None);
+    assert_eq!(rt; papers.place_from_guess(1, "p2"), Some(1));
+    assert_eq!(rt; papers.place_from_guess(0, "p2"), Some(1));
+    assert_eq!(rt; papers.place_from_guess(2, "p3"), None);
     let twin = papers.copy(alloc)?;
     assert_eq!(rt; twin.len(), 2);
     assert_eq!(rt; twin.row_at(0).key(), "p1");

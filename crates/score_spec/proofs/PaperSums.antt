@@ -4,7 +4,7 @@ use Rattle.std.proofs.lemmas.Int.{ints}
 use Rattle.std.proofs.lemmas.List.{at_drop_more}
 use Rattle.score_spec.specs.declared.paper_scores.PaperSource.{PaperSource}
 use Rattle.score_spec.specs.declared.spec.BidWord.{BidWord}
-use Rattle.score_spec.specs.PaperScores.{AreRowsOf, part_by, sum_by}
+use Rattle.score_spec.specs.PaperScores.{IsPartOf, part_by, sum_by}
 use Rattle.score_spec.specs.Scores.{ScoresValue, source_value, weighted_sum}
 use Rattle.score_spec.specs.Sources.{SourceValue}
 use Rattle.score_spec.proofs.Products.{sum_step}
@@ -25,12 +25,10 @@ module _ (words : List BidWord) (scores : ScoresValue) (paper : List ℕ) where
   abbrev pub SumsTo : List PaperSource → List SourceValue → List SourceValue → Type 0
   SumsTo parts left sources = (reviewer : List ℕ) → sum_by words parts reviewer +ℤ weighted_sum words scores paper reviewer left ≡ weighted_sum words scores paper reviewer sources
 
-  pub sums-more : (parts : List PaperSource) (part : PaperSource) (sources : List SourceValue) (i : ℕ) → i < length sources → part.source.now ≡ get_or sources i part.source.now
-      → AreRowsOf part.rows scores paper part.source.now.name part.source.now.kind → SumsTo parts (drop i sources) sources → SumsTo (parts ++ part ∷ []) (drop (i + 1) sources) sources
-  sums-more parts part sources i lt here rows so_far = λ reviewer.
-      let source = part.source.now in
+  pub sums-more : (parts : List PaperSource) (part : PaperSource) (source : SourceValue) (sources : List SourceValue) (i : ℕ) → i < length sources → source ≡ get_or sources i source
+      → IsPartOf part scores paper source → SumsTo parts (drop i sources) sources → SumsTo (parts ++ part ∷ []) (drop (i + 1) sources) sources
+  sums-more parts part source sources i lt here is so_far = λ reviewer.
       let total_of = λ (left : List SourceValue). weighted_sum words scores paper reviewer left in
       let part_of = λ (source : SourceValue). source.weight *ℤ source_value words scores paper reviewer source in
-      let is : part_by words part reviewer ≡ part_of source = ap (λ value. source.weight *ℤ unwrap_or value source.default) (rows words reviewer) in
-      let next = at_drop_more total_of sources i source lt ∙ ap (λ x. x +ℤ total_of (drop (i + 1) sources)) (sym (is ∙ ap part_of here)) in
+      let next = at_drop_more total_of sources i source lt ∙ ap (λ x. x +ℤ total_of (drop (i + 1) sources)) (sym (is words reviewer ∙ ap part_of here)) in
       sum_step (sum_by words parts reviewer) (part_by words part reviewer) (total_of (drop i sources)) (total_of (drop (i + 1) sources)) (total_of sources) (sum_by words (parts ++ part ∷ []) reviewer) (so_far reviewer) next (sum-last words parts part reviewer)

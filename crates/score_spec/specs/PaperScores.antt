@@ -8,7 +8,8 @@ use Rattle.score_spec.specs.declared.spec.BidWord.{BidWord}
 use Rattle.score_spec.specs.declared.spec.Kind.{Kind}
 use Rattle.score_spec.specs.declared.spec.Spec.{Spec}
 use Rattle.score_spec.specs.PairTables.{value_of}
-use Rattle.score_spec.specs.Scores.{ScoresValue, given_value, value_of_word, weighted_sum}
+use Rattle.score_spec.specs.Scores.{ScoresValue, given_value, source_value, value_of_word, weighted_sum}
+use Rattle.score_spec.specs.Sources.{SourceValue}
 
 -- the scores of a paper, by a spec
 pub record PaperScoresValue : Type 0 where
@@ -29,6 +30,11 @@ AreRowsOf rows scores paper name kind = (words : List BidWord) (reviewer : List 
 -- a source's value times its weight
 abbrev pub part_by : List BidWord → PaperSource → List ℕ → ℤ
 part_by words part reviewer = part.source.now.weight *ℤ unwrap_or (value_by words part.rows reviewer) part.source.now.default
+
+-- the part of the source in the score of each pair of the paper
+abbrev pub IsPartOf : PaperSource → ScoresValue → List ℕ → SourceValue → Type 0
+IsPartOf part scores paper source =
+    (words : List BidWord) (reviewer : List ℕ) → part_by words part reviewer ≡ source.weight *ℤ source_value words scores paper reviewer source
 
 -- summed over all sources
 abbrev pub sum_by : List BidWord → List PaperSource → List ℕ → ℤ

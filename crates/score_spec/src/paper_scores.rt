@@ -2,7 +2,7 @@
 
 ghost use Rattle.std.specs.Prelude.{◌≡◌, ◌≤◌, ◌≤ℤ◌, ◌*ℤ◌, ◌++◌, ◌∷◌, [], pos, neg_ℤ, length, IfOk, OnOk};
 ghost use Rattle.score_spec.specs.Scores.{score_of};
-ghost use Rattle.score_spec.specs.PaperScores.{AreRowsOf, AreSourcesOf, part_by, value_by};
+ghost use Rattle.score_spec.specs.PaperScores.{AreRowsOf, AreSourcesOf, IsPartOf, part_by, value_by};
 ghost use Rattle.score_spec.specs.declared.spec.Kind.TheVariants as kind_of;
 
 use crate::by_id::ById;
@@ -79,8 +79,18 @@ impl<'a> SourceRows<'a> {
 }
 
 impl<'a> PaperSource<'a> {
+    // The source, with the rows of the paper.
+    pub(crate) fn of(scores: &'a Scores, source: &'a SourceSpec, paper: &str) -> Self
+        ensures { IsPartOf result scores.now paper.now source.now }
+    {
+        PaperSource {
+            source,
+            rows: rows_of(scores, source, paper),
+        }
+    }
+
     // The source's part of the score of a reviewer.
-    fn weighted(&self, words: &[BidWord], reviewer: &str) -> i64
+    pub(crate) fn weighted(&self, words: &[BidWord], reviewer: &str) -> i64
         ensures part { result ≡ part_by words.now self.now reviewer.now }
         ensures low { neg_ℤ (pos 1000000000) ≤ℤ result }
         ensures high { result ≤ℤ pos 1000000000 }
@@ -124,8 +134,7 @@ fn parts_of<'a>(
 {
     let mut parts = Vec::new(alloc);
     for source in spec.sources.as_slice() {
-        let rows = rows_of(scores, source, paper);
-        parts.push(PaperSource { source, rows })?;
+        parts.push(PaperSource::of(scores, source, paper))?;
     }
     Ok(parts)
 }

@@ -1,6 +1,6 @@
 use crate::{
-    BidWord, Kind, NumberFault, PairTable, Scores, SourceSpec, Sources, Spec, Text, Value, Words,
-    read_value, score,
+    BidWord, Kind, NumberFault, PairTable, PaperScores, Scores, SourceSpec, Sources, Spec, Text,
+    Value, Words, read_value, score,
 };
 use match_rules::{PaperId, ReviewerId};
 use std::alloc::Global;
@@ -194,10 +194,21 @@ fn score_of(alloc: Global, paper: &str, reviewer: &str) -> Result<i64, Fail> {
     Ok(score(&spec, &scores, paper, reviewer))
 }
 
+fn score_of_paper(alloc: Global, paper: &str, reviewer: &str) -> Result<i64, Fail> {
+    let spec = spec(alloc)?;
+    let scores = scores(alloc)?;
+    if spec.sources.as_slice().len() > 8 {
+        return Ok(-1);
+    }
+    Ok(PaperScores::new(alloc, &spec, &scores, paper)?.score(reviewer))
+}
+
 #[test]
 fn the_score_is_a_weighted_sum(rt: HostRuntime) -> Result<(), Fail> {
     assert_eq!(rt; score_of(rt.alloc(), "p1", "r1")?, 95_290);
     assert_eq!(rt; score_of(rt.alloc(), "p0", "r2")?, 0);
+    assert_eq!(rt; score_of_paper(rt.alloc(), "p1", "r1")?, 95_290);
+    assert_eq!(rt; score_of_paper(rt.alloc(), "p0", "r2")?, 0);
     Ok(())
 }
 

@@ -1,10 +1,11 @@
 ghost use Rattle.std.specs.Prelude.{◌≡◌, ◌≤◌, ◌≤ℤ◌, ◌*ℤ◌, pos, neg_ℤ, length};
 ghost use Rattle.score_spec.specs.Sources.{IsWeight};
-ghost use Rattle.score_spec.specs.Scores.{value_of_word, given_value, source_value, score_of};
+ghost use Rattle.score_spec.specs.Scores.{value_of_word, source_value, score_of};
 
 use crate::numbers::Value;
+use crate::paper_scores::PaperSource;
 use crate::scores::Scores;
-use crate::spec::{BidWord, Kind, SourceSpec, Spec};
+use crate::spec::{BidWord, SourceSpec, Spec};
 
 pub(crate) fn value_of_word(words: &[BidWord], word: &str) -> Option<Value>
     ensures { result ≡ value_of_word words.now word.now }
@@ -15,29 +16,6 @@ pub(crate) fn value_of_word(words: &[BidWord], word: &str) -> Option<Value>
         }
     }
     None
-}
-
-// The value that a pair has by a source.
-fn given_value(
-    words: &[BidWord],
-    scores: &Scores,
-    paper: &str,
-    reviewer: &str,
-    source: &SourceSpec,
-) -> Option<Value>
-    ensures { result ≡ given_value words.now scores.now paper.now reviewer.now source.now.name source.now.kind }
-{
-    match source.kind() {
-        Kind::Values => {
-            let table = scores.values(source.name())?;
-            let value = table.get(paper, reviewer)?;
-            Some(*value)
-        }
-        Kind::Bids => {
-            let word = scores.bids().get(paper, reviewer)?;
-            value_of_word(words, word.as_str())
-        }
-    }
 }
 
 // A weight times a value: at most 10,000 * 100,000.
@@ -62,8 +40,7 @@ fn weighted(
     ensures low { neg_ℤ (pos 1000000000) ≤ℤ result }
     ensures high { result ≤ℤ pos 1000000000 }
 {
-    let value = given_value(words, scores, paper, reviewer, source).unwrap_or(source.default());
-    product(source.weight(), value)
+    PaperSource::of(scores, source, paper).weighted(words, reviewer)
 }
 
 /// The score of a pair in millionths: each source's weight in hundredths times its value in ten-thousandths, summed.

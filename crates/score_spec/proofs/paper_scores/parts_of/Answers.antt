@@ -10,5 +10,5 @@ loop-source-preserved c =
     let lt : i < length sources = rw c.as_slice-source-items.ensures at c.loop-source-test.true in
     record {
       count = omega (arith, c.in_ok-push.ensures.len, c.loop-source.invariant.count);
-      sums = rw c.in_ok-push.ensures.items (sums-more c.args.spec.now.words c.args.scores.now c.args.paper.now c.loop-source.parts.items _ sources i lt here c.rows_of-rows.ensures c.loop-source.invariant.sums);
+      sums = rw c.in_ok-push.ensures.items (sums-more c.args.spec.now.words c.args.scores.now c.args.paper.now c.loop-source.parts.items _ c.source-item.result sources i lt here c.of.ensures c.loop-source.invariant.sums);
     }
