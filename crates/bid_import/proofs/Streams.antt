@@ -4,7 +4,7 @@ use Rattle.std.specs.Prelude.{if◌then◌else◌, ◌==◌, ◌||◌, option_ma
 use Rattle.bid_import.specs.Files.{first_of, first_number, first_row_of}
 use Rattle.std.proofs.lemmas.Bool.{cases_Bool}
 use Rattle.csv.specs.Machine.{Read, next_record, step, ends_at_end, is_end, fields_after, field_after, in_field, start_field, start_record}
-use Rattle.csv.specs.Reading.{records_from, records_next, default_config, source_of, ReadRecord, Reached, strip_bom}
+use Rattle.csv.specs.Reading.{records_from, records_next, default_config, source_of, pending_of, NextIs, ReadsNext, ReadRecord, TookRecord, Reached, is_bom, strip_bom}
 use Rattle.csv.specs.declared.reader.Reader.{Reader}
 use Rattle.csv.proofs.ReadFacts.{rows-more, rows-end}
 use Rattle.csv.specs.declared.parser.State.{State}
@@ -122,10 +122,10 @@ no-records : (s : State) (xs : List ℕ) → next_record default_config s [] [] 
 unfolding records_from
 no-records s xs h = rw (add-one, h) refl
 
--- a turn of the reader takes the next of the records that are left
+-- a turn of the reader takes the next of the records that are left, and with it a byte or more
 pub stream-more : {R : Type 0} (rem : R → Option (List ℕ)) (a b : Reader R) (f : List (List ℕ)) (y : List ℕ)
     → a.config ≡ default_config → ends_at_end a.state ≡ false → source_of rem a ≡ Some y → ReadRecord rem a b true f
-    → (z : List ℕ) × (source_of rem b ≡ Some z) × (ends_at_end b.state ≡ false) × (left_records a.state y ≡ f ∷ left_records b.state z)
+    → (z : List ℕ) × (source_of rem b ≡ Some z) × (ends_at_end b.state ≡ false) × (left_records a.state y ≡ f ∷ left_records b.state z) × (length z < length y)
 unfolding Reached
 stream-more rem a b f y config between source read =
     let m = rows-more rem a b f default_config a.state y y [] config source (refl, refl) read in
@@ -135,12 +135,40 @@ stream-more rem a b f y config between source read =
     let rest : p.2 ≡ m.0 = m.2.3.1 in
     let step = more-records a.state y p between next in
     let first : p.0 ≡ f = sym m.2.2 in
-    (m.0, m.1, ap ends_at_end (sym state) ∙ between-after a.state [] [] y p next, step ∙ cc)
+    let less = left-less a.state y p between next in
+    (m.0, m.1, ap ends_at_end (sym state) ∙ between-after a.state [] [] y p next, step ∙ cc, rw rest at less)
+
+-- a record that isn't text is the next of those that are left
+pub stream-took : {R : Type 0} (rem : R → Option (List ℕ)) (a b : Reader R) (f : List (List ℕ)) (y : List ℕ)
+    → a.config ≡ default_config → ends_at_end a.state ≡ false → source_of rem a ≡ Some y → TookRecord rem a b f
+    → (rest : List (List (List ℕ))) × (left_records a.state y ≡ f ∷ rest)
+stream-took rem a b f y config between source took = next-is (pending_of (rem b.rdr) b) (rw (config, source) at took)
+  where
+    on : (o : Option Read) (z : List ℕ) → next_record default_config a.state [] [] y ≡ o → NextIs o true f b.state z → (rest : List (List (List ℕ))) × (left_records a.state y ≡ f ∷ rest)
+    on None z e n = absurd (cc)
+    on (Some p) z e n = (left_records p.1 p.2, more-records a.state y p between e ∙ ap (λ fields. fields ∷ left_records p.1 p.2) (sym n.1))
+
+    next-is : (k : Option (List ℕ)) → ReadsNext default_config a.state (Some y) k true f b.state → (rest : List (List (List ℕ))) × (left_records a.state y ≡ f ∷ rest)
+    next-is None r = absurd r
+    next-is (Some z) r = on (next_record default_config a.state [] [] y) z refl r
 
 -- and at the end none is left
 pub stream-end : {R : Type 0} (rem : R → Option (List ℕ)) (a b : Reader R) (f : List (List ℕ)) (y : List ℕ)
     → a.config ≡ default_config → source_of rem a ≡ Some y → ReadRecord rem a b false f → left_records a.state y ≡ []
 stream-end rem a b f y config source read = no-records a.state y (rows-end rem a b f default_config y config source read)
+
+-- nor where no byte is left
+pub none-left : (s : State) (xs : List ℕ) → ends_at_end s ≡ false → length xs ≤ 0 → left_records s xs ≡ []
+unfolding next_record
+none-left s [] between h = no-records s [] (rw between refl)
+none-left s (c ∷ rest) between h = absurd (omega arith)
+
+pub strip-shorter : (xs : List ℕ) → length (strip_bom xs) ≤ length xs
+unfolding strip_bom
+strip-shorter [] = omega arith
+strip-shorter (a ∷ []) = omega arith
+strip-shorter (a ∷ b ∷ []) = omega arith
+strip-shorter (a ∷ b ∷ c ∷ rest) = elim (cases_Bool (is_bom a b c)) [ inl e ↦ rw e (omega arith) | inr e ↦ rw e (omega arith) ]
 
 -- the first record
 pub first-is : (columns : List (List ℕ)) (bytes : List ℕ) (o : Option (List (List ℕ))) → o ≡ option_map (λ (p : Read). p.0) (next_record default_config st.StartRecord [] [] (strip_bom bytes)) → first_number columns o ≡ first_row_of columns bytes

@@ -1,6 +1,8 @@
 // The number of the first record that is a row.
 
-ghost use Rattle.std.specs.Prelude.{◌≡◌, [], Some, IfOk, option_map};
+ghost use Rattle.std.specs.Prelude.{◌≡◌, [], true, false, Some, IfOk, MatchOption, option_map};
+ghost use Rattle.std.specs.List.{list_all};
+ghost use Rattle.std.specs.Str.{is_utf8};
 ghost use Rattle.csv.specs.Machine.{next_record};
 ghost use Rattle.csv.specs.Reading.{default_config, strip_bom};
 ghost use Rattle.csv.specs.Records.{fields_of};
@@ -10,7 +12,6 @@ ghost use Rattle.bid_import.specs.Kinds.{columns_of};
 
 use crate::fault::FileKind;
 use crate::fields;
-use crate::records::text_of;
 use csv::{ByteRecord, ReaderBuilder, StringRecord};
 use std::alloc::{AllocError, Global};
 
@@ -40,6 +41,16 @@ fn has_columns(file: FileKind, found: &StringRecord) -> bool
         FileKind::Bids => fields::has_three(found, "paper", "reviewer", "bid"),
         FileKind::Marks => fields::has_three(found, "paper", "reviewer", "mark"),
         FileKind::Caps => fields::has_three(found, "paper", "reviewer", "cap"),
+    }
+}
+
+// The text of a record, where each of its fields is.
+fn text_of(raw: ByteRecord) -> Option<StringRecord>
+    ensures { MatchOption result (list_all is_utf8 (fields_of raw) ≡ false) (λ text. (fields_of text ≡ fields_of raw) × (list_all is_utf8 (fields_of raw) ≡ true)) }
+{
+    match StringRecord::from_byte_record(raw) {
+        Ok(text) => Some(text),
+        Err(_) => None,
     }
 }
 

@@ -1,13 +1,13 @@
-ghost use Rattle.std.specs.Prelude.{◌≡◌, ℕ, ◌+◌, ◌≤◌, ◌<◌, [], true, false, List, Result, length, MatchOption, OnOk, ◌==◌, ◌&&◌, option_map};
-ghost use Rattle.std.specs.Option.{option_map_or};
+ghost use Rattle.std.specs.Prelude.{◌≡◌, ℕ, ◌≤◌, true, List, Result, OnOk, ◌==◌, ◌&&◌};
 ghost use Rattle.std.specs.List.{list_all};
 ghost use Rattle.std.specs.Str.{is_utf8};
-ghost use Rattle.csv.specs.Records.{fields_of};
+ghost use Rattle.csv.specs.Reading.{error_kind};
+ghost use Rattle.csv.specs.Records.{AllText, fields_of};
 ghost use Rattle.bid_import.specs.declared.fault.Code.{Code};
-ghost use Rattle.bid_import.specs.Files.{is_header, rows_of_file, rest_of, Imports, Reads, Goes, Adds, IsProgress};
+ghost use Rattle.bid_import.specs.Files.{is_header, rows_of_file, rest_of, Imports, Reads, Goes, Adds, IsProgress, unread_fault};
 
 use crate::fault::{Code, ImportFault, RowFault};
-use csv::{ByteRecord, ReaderBuilder, StringRecord};
+use csv::{ErrorKind, ReaderBuilder, StringRecord};
 use std::alloc::Global;
 
 /// A kind of file: the names of its columns, the most records that it may have, and how a record reads.
@@ -46,57 +46,45 @@ struct Progress<R> {
     rows: Vec<R>,
 }
 
-pub(crate) fn text_of(raw: ByteRecord) -> Option<StringRecord>
-    ensures { MatchOption result (list_all is_utf8 (fields_of raw) ≡ false) (λ text. (fields_of text ≡ fields_of raw) × (list_all is_utf8 (fields_of raw) ≡ true)) }
-{
-    match StringRecord::from_byte_record(raw) {
-        Ok(text) => Some(text),
-        Err(_) => None,
-    }
-}
-
 // Takes a record more: its row, or its fault, or nothing where it has the names of the columns.
 fn put<K: RowKind>(
     alloc: Global,
     kind: &K,
-    raw: ByteRecord,
+    found: &StringRecord,
     progress: &mut Progress<K::Row>,
 ) -> Result<(), ImportFault>
-    requires { IsProgress K.most progress.old.number progress.old.rows.items }
-    ensures goes { Goes result (rest_of (K.row_of kind.now) K.columns K.most progress.old.number progress.old.rows.items) (rest_of (K.row_of kind.now) K.columns K.most progress.new.number progress.new.rows.items) (fields_of raw) }
+    requires progress { IsProgress K.most progress.old.number progress.old.rows.items }
+    requires text { AllText (fields_of found.now) }
+    ensures goes { Goes result (rest_of (K.row_of kind.now) K.columns K.most progress.old.number progress.old.rows.items) (rest_of (K.row_of kind.now) K.columns K.most progress.new.number progress.new.rows.items) (fields_of found.now) }
     ensures kept { OnOk result (IsProgress K.most progress.new.number progress.new.rows.items) }
 {
-    let text = text_of(raw);
-    let skipped = is_skipped(kind, progress.number, &text);
+    let skipped = is_skipped(kind, progress.number, found);
     progress.number += 1;
     if skipped {
         return Ok(());
     }
-    add(alloc, kind, text, progress)
+    add(alloc, kind, found, progress)
 }
 
-// Whether this is the first record, of text and with the names of the columns.
-fn is_skipped<K: RowKind>(kind: &K, number: u64, text: &Option<StringRecord>) -> bool
-    ensures { result ≡ (number == 0) && option_map_or (λ r. is_header K.columns (fields_of r)) text.now false }
+// Whether this is the first record, with the names of the columns.
+fn is_skipped<K: RowKind>(kind: &K, number: u64, found: &StringRecord) -> bool
+    ensures { result ≡ (number == 0) && is_header K.columns (fields_of found.now) }
 {
     if number != 0 {
         return false;
     }
-    match text {
-        Some(record) => kind.is_header(record),
-        None => false,
-    }
+    kind.is_header(found)
 }
 
 // Adds the row of a record.
 fn add<K: RowKind>(
     alloc: Global,
     kind: &K,
-    text: Option<StringRecord>,
+    found: &StringRecord,
     progress: &mut Progress<K::Row>,
 ) -> Result<(), ImportFault>
     ensures number { progress.new.number ≡ progress.old.number }
-    ensures added { Adds result (K.row_of kind.now) K.most progress.old.number progress.old.rows.items progress.new.rows.items (option_map fields_of text) }
+    ensures added { Adds result (K.row_of kind.now) K.most progress.old.number progress.old.rows.items progress.new.rows.items (fields_of found.now) }
 {
     let row = progress.number;
     if progress.rows.len() >= kind.most() {
@@ -105,16 +93,7 @@ fn add<K: RowKind>(
             code: Code::TooMany,
         });
     }
-    let record = match text {
-        Some(record) => record,
-        None => {
-            return Err(ImportFault::Bad {
-                row,
-                code: Code::NotUtf8,
-            });
-        }
-    };
-    let new = match kind.row(alloc, &record) {
+    let new = match kind.row(alloc, found) {
         Ok(new) => new,
         Err(RowFault::Memory) => return Err(ImportFault::Memory),
         Err(RowFault::Wrong(code)) => return Err(ImportFault::Bad { row, code }),
@@ -122,6 +101,25 @@ fn add<K: RowKind>(
     match progress.rows.push(new) {
         Ok(()) => Ok(()),
         Err(_) => Err(ImportFault::Memory),
+    }
+}
+
+// The fault of a next record that isn't text: one too many, or not UTF-8. Any other error is for want of memory,
+// since a slice is read without fail and records may differ in length.
+fn unread<K: RowKind>(kind: &K, progress: &Progress<K::Row>, error: &csv::Error) -> ImportFault
+    requires { IsProgress K.most progress.now.number progress.now.rows.items }
+    ensures { result ≡ unread_fault (error_kind error.now) K.most progress.now.number progress.now.rows.items }
+{
+    match error.kind() {
+        ErrorKind::Utf8 { .. } => ImportFault::Bad {
+            row: progress.number + 1,
+            code: if progress.rows.len() < kind.most() {
+                Code::NotUtf8
+            } else {
+                Code::TooMany
+            },
+        },
+        _ => ImportFault::Memory,
     }
 }
 
@@ -133,20 +131,23 @@ pub(crate) fn read_rows<K: RowKind>(
 ) -> Result<Vec<K::Row>, ImportFault>
     ensures { Imports result (rows_of_file (K.row_of kind.now) K.columns K.most bytes.now) }
 {
-    let reader = ReaderBuilder::new()
+    let mut reader = ReaderBuilder::new()
         .has_headers(false)
         .flexible(true)
         .from_reader(alloc, bytes);
+    let mut found = StringRecord::new(alloc);
     let mut progress = Progress {
         number: 0,
         rows: Vec::new(alloc),
     };
-    for record in reader.into_byte_records() {
-        let raw = match record {
-            Ok(raw) => raw,
-            Err(_) => return Err(ImportFault::Memory),
-        };
-        if let Err(fault) = put(alloc, kind, raw, &mut progress) {
+    // Each record takes a byte or more, so a file has no more records than bytes.
+    for _turn in 0..bytes.len() {
+        match reader.read_record(&mut found) {
+            Ok(true) => {}
+            Ok(false) => break,
+            Err(error) => return Err(unread(kind, &progress, &error)),
+        }
+        if let Err(fault) = put(alloc, kind, &found, &mut progress) {
             return Err(fault);
         }
     }

@@ -1,61 +1,76 @@
--- Each turn of the reader takes the next of the records that are left.
-use Rattle.std.proofs.Common.{◌∙◌, ℕ, List, [], Some, Bor, ap, refl, inl, inr, arith}
+-- Each turn of the reader takes the next of the records that are left, and a byte or more of the text.
+use Rattle.std.proofs.Common.{◌≡◌, ◌∙◌, ℕ, List, [], Some, Bor, ap, refl, inl, inr, arith}
 use Rattle.csv.specs.Reading.{strip_bom}
 use Rattle.csv.specs.Records.{fields_of}
 use Rattle.bid_import.specs.Files.{rows_of_file, rest_of}
-use Rattle.bid_import.proofs.Streams.{stream-more, stream-end, left_records}
-use Rattle.bid_import.proofs.Progress.{starts, ends, fails}
+use Rattle.bid_import.proofs.Streams.{stream-more, stream-end, none-left, strip-shorter, left_records}
+use Rattle.bid_import.proofs.Progress.{starts, ends, fails, stops}
+use Rattle.bid_import.proofs.records.read_rows.Goals.{else-loop-turn-test, then-loop-turn-test+in-Ok-false}
 use Rattle.bid_import.proofs.records.read_rows.Goals as goal
 
-pub loop-record-init : goal.loop-record-init
-loop-record-init g c =
+pub loop-turn-init : goal.loop-turn-init
+loop-turn-init g c =
     let fr = c.from_reader-reader.ensures in
-    let start = c.into_iter-record-iterator.ensures.into_iter_gives in
-    let rdr = c.into_byte_records-record-items.ensures.rdr in
-    let turns = c.into_byte_records-record-items.ensures.left in
     let state = fr.state in
-    rw (start, rdr, c.new-2.ensures.items) (record {
+    rw c.new-2.ensures.items (record {
       trim = rw (c.flexible.ensures, c.has_headers.ensures) at fr.trim ∙ c.new.ensures.trim;
       ready = inr (inr (rw (c.flexible.ensures, c.has_headers.ensures) at fr.has_headers, fr.headers));
-      turns = turns;
       config = rw (c.flexible.ensures, c.has_headers.ensures) at fr.config ∙ c.new.ensures.config;
       between = rw state refl;
       progress = record { counted = omega arith; few = omega arith; fresh = λ e. refl; bounded = g.met.K.RowKind.few };
-      left = (strip_bom c.args.bytes.now, (fr.source, rw state (starts (g.K.RowKind.row_of c.args.kind.now) g.K.RowKind.columns g.K.RowKind.most c.args.bytes.now)));
+      left = (strip_bom c.args.bytes.now, (fr.source, omega (arith, strip-shorter c.args.bytes.now), rw state (starts (g.K.RowKind.row_of c.args.kind.now) g.K.RowKind.columns g.K.RowKind.most c.args.bytes.now)));
     })
+
+pub unread-requires : goal.unread-requires
+unread-requires g c = c.loop-turn.invariant.progress
+
+pub put-requires-clause-progress : goal.put-requires-clause-progress
+put-requires-clause-progress g c = c.loop-turn.invariant.progress
+
+pub returns-in-Err : goal.returns-in-Err
+returns-in-Err g c =
+    let inv = c.loop-turn.invariant in
+    let row_of = g.K.RowKind.row_of c.args.kind.now in
+    let whole = rows_of_file row_of g.K.RowKind.columns g.K.RowKind.most c.args.bytes.now in
+    let stopped = stops row_of g.K.RowKind.columns g.K.RowKind.most (λ (s : Bor (List ℕ)). Some s.now) c.loop-turn.reader c.read_record.new.self c.in-Err.error.kind c.loop-turn.progress.number c.loop-turn.progress.rows.items inv.left.0 whole
+    g.met.K.RowKind.texts inv.progress inv.config inv.between inv.left.1.0 (c.in-Err.ensures.why inv.trim inv.ready) inv.left.1.2 in
+    rw c.unread.ensures stopped
 
 pub returns-in-Err-put : goal.returns-in-Err-put
 returns-in-Err-put g c =
-    let inv = c.loop-record.invariant in
-    let s = rw (c.in-Some.is, c.in-Ok.is) at ((c.next.ensures.steps inv.turns inv.trim).0 inv.ready) in
-    let m = stream-more (λ (s : Bor (List ℕ)). Some s.now) c.loop-record.record-iterator.rdr c.next.new.self.rdr (fields_of c.in-Ok.raw) inv.left.0 inv.config inv.between inv.left.1.0 s.0 in
+    let inv = c.loop-turn.invariant in
+    let read = rw c.in-Ok-true.field-0-test at (c.in-Ok-true.ensures.reads inv.trim inv.ready) in
+    let m = stream-more (λ (s : Bor (List ℕ)). Some s.now) c.loop-turn.reader c.read_record.new.self (fields_of c.read_record.new.row) inv.left.0 inv.config inv.between inv.left.1.0 read in
     let row_of = g.K.RowKind.row_of c.args.kind.now in
-    let before = rest_of row_of g.K.RowKind.columns g.K.RowKind.most c.loop-record.progress.number c.loop-record.progress.rows.items in
+    let before = rest_of row_of g.K.RowKind.columns g.K.RowKind.most c.loop-turn.progress.number c.loop-turn.progress.rows.items in
     let after = rest_of row_of g.K.RowKind.columns g.K.RowKind.most c.put.new.progress.number c.put.new.progress.rows.items in
-    fails row_of g.K.RowKind.columns g.K.RowKind.most c.in-Err-put.fault (rows_of_file row_of g.K.RowKind.columns g.K.RowKind.most c.args.bytes.now) before after (fields_of c.in-Ok.raw) (left_records c.next.new.self.rdr.state m.0) c.in-Err-put.ensures.goes (inv.left.1.1 ∙ ap before m.3)
+    fails row_of g.K.RowKind.columns g.K.RowKind.most c.in-Err-put.fault (rows_of_file row_of g.K.RowKind.columns g.K.RowKind.most c.args.bytes.now) before after (fields_of c.read_record.new.row) (left_records c.read_record.new.self.state m.0) c.in-Err-put.ensures.goes (inv.left.1.2 ∙ ap before m.3)
 
-pub loop-record-preserved : goal.loop-record-preserved
-loop-record-preserved g c =
-    let inv = c.loop-record.invariant in
-    let s = rw (c.in-Some.is, c.in-Ok.is) at ((c.next.ensures.steps inv.turns inv.trim).0 inv.ready) in
-    let m = stream-more (λ (s : Bor (List ℕ)). Some s.now) c.loop-record.record-iterator.rdr c.next.new.self.rdr (fields_of c.in-Ok.raw) inv.left.0 inv.config inv.between inv.left.1.0 s.0 in
+pub loop-turn-preserved : goal.loop-turn-preserved
+loop-turn-preserved g c =
+    let inv = c.loop-turn.invariant in
+    let read = rw c.in-Ok-true.field-0-test at (c.in-Ok-true.ensures.reads inv.trim inv.ready) in
+    let m = stream-more (λ (s : Bor (List ℕ)). Some s.now) c.loop-turn.reader c.read_record.new.self (fields_of c.read_record.new.row) inv.left.0 inv.config inv.between inv.left.1.0 read in
     let row_of = g.K.RowKind.row_of c.args.kind.now in
-    let before = rest_of row_of g.K.RowKind.columns g.K.RowKind.most c.loop-record.progress.number c.loop-record.progress.rows.items in
+    let before = rest_of row_of g.K.RowKind.columns g.K.RowKind.most c.loop-turn.progress.number c.loop-turn.progress.rows.items in
     record {
-      trim = s.0.3 ∙ inv.trim;
-      ready = inl s.1;
-      turns = s.2;
-      config = s.0.2 ∙ inv.config;
+      trim = read.3 ∙ inv.trim;
+      ready = inl (c.in-Ok-true.ensures.ready inv.trim);
+      config = read.2 ∙ inv.config;
       between = m.2;
       progress = c.in_default.ensures.kept;
-      left = (m.0, (m.1, inv.left.1.1 ∙ ap before m.3 ∙ c.in_default.ensures.goes (left_records c.next.new.self.rdr.state m.0)));
+      left = (m.0, (m.1, omega (arith, inv.left.1.1, m.4), inv.left.1.2 ∙ ap before m.3 ∙ c.in_default.ensures.goes (left_records c.read_record.new.self.state m.0)));
     }
 
 pub returns : goal.returns
 returns g c =
-    let inv = c.loop-record.invariant in
-    let s = rw c.in-None.is at ((c.next.ensures.steps inv.turns inv.trim).0 inv.ready) in
+    let inv = c.loop-turn.invariant in
     let row_of = g.K.RowKind.row_of c.args.kind.now in
-    let before = rest_of row_of g.K.RowKind.columns g.K.RowKind.most c.loop-record.progress.number c.loop-record.progress.rows.items in
-    let none = stream-end (λ (s : Bor (List ℕ)). Some s.now) c.loop-record.record-iterator.rdr c.next.new.self.rdr [] inv.left.0 inv.config inv.left.1.0 s in
-    inv.left.1.1 ∙ ap before none ∙ ends row_of g.K.RowKind.columns g.K.RowKind.most c.loop-record.progress.number c.loop-record.progress.rows.items
+    let before = rest_of row_of g.K.RowKind.columns g.K.RowKind.most c.loop-turn.progress.number c.loop-turn.progress.rows.items in
+    let none : left_records c.loop-turn.reader.state inv.left.0 ≡ [] = elim c.loop-turn-test.branch [
+      | else-loop-turn-test w ↦ none-left c.loop-turn.reader.state inv.left.0 inv.between (omega (arith, inv.left.1.1, w.loop-turn-test))
+      | then-loop-turn-test+in-Ok-false w ↦
+          let read = rw w.in-Ok-false.field-0-test at (w.in-Ok-false.ensures.reads inv.trim inv.ready) in
+          stream-end (λ (s : Bor (List ℕ)). Some s.now) c.loop-turn.reader w.read_record.new.self (fields_of w.read_record.new.row) inv.left.0 inv.config inv.left.1.0 read
+    ] in
+    inv.left.1.2 ∙ ap before none ∙ ends row_of g.K.RowKind.columns g.K.RowKind.most c.loop-turn.progress.number c.loop-turn.progress.rows.items

@@ -1,4 +1,4 @@
-use Rattle.std.proofs.Common.{◌≡◌, ◌<◌, ℕ, List, Some, false}
+use Rattle.std.proofs.Common.{◌≡◌, ◌≤◌, ◌+◌, ℕ, List, Some, false, length}
 use Rattle.csv.specs.Machine.{ends_at_end}
 use Rattle.csv.specs.Reading.{Ready, default_config, source_of}
 use Rattle.csv.specs.declared.reader.Trim.TheVariants as trim
@@ -6,15 +6,15 @@ use Rattle.bid_import.specs.Files.{rows_of_file, rest_of, IsProgress}
 use Rattle.bid_import.proofs.Streams.{left_records}
 use Rattle.bid_import.proofs.records.read_rows.Given as goal
 
-abbrev pub invariant-loop-record : goal.invariant-loop-record
-invariant-loop-record g l = record {
-  trim : l.record-iterator.rdr.trim ≡ trim.None;
-  ready : Ready l.record-iterator.rdr;
-  turns : 0 < l.record-iterator.left;
-  config : l.record-iterator.rdr.config ≡ default_config;
-  between : ends_at_end l.record-iterator.rdr.state ≡ false;
+abbrev pub invariant-loop-turn : goal.invariant-loop-turn
+invariant-loop-turn g l = record {
+  trim : l.reader.trim ≡ trim.None;
+  ready : Ready l.reader;
+  config : l.reader.config ≡ default_config;
+  between : ends_at_end l.reader.state ≡ false;
   progress : IsProgress g.K.RowKind.most l.progress.number l.progress.rows.items;
-  left : (y : List ℕ) × ((source_of (λ s. Some s.now) l.record-iterator.rdr ≡ Some y)
+  left : (y : List ℕ) × ((source_of (λ s. Some s.now) l.reader ≡ Some y)
+      × (l._turn + length y ≤ length l.bytes)
       × (rows_of_file (g.K.RowKind.row_of l.kind) g.K.RowKind.columns g.K.RowKind.most l.bytes
-      ≡ rest_of (g.K.RowKind.row_of l.kind) g.K.RowKind.columns g.K.RowKind.most l.progress.number l.progress.rows.items (left_records l.record-iterator.rdr.state y)));
+      ≡ rest_of (g.K.RowKind.row_of l.kind) g.K.RowKind.columns g.K.RowKind.most l.progress.number l.progress.rows.items (left_records l.reader.state y)));
 }

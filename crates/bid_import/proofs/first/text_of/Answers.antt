@@ -5,7 +5,7 @@ use Rattle.std.specs.Str.{is_utf8}
 use Rattle.std.proofs.lemmas.Bool.{cases_Bool, false≢true}
 use Rattle.csv.specs.Records.{fields_of, AllText}
 use Rattle.bid_import.proofs.Texts.{all-text, texts-all}
-use Rattle.bid_import.proofs.records.text_of.Goals as goal
+use Rattle.bid_import.proofs.first.text_of.Goals as goal
 
 pub returns-in-Ok : goal.returns-in-Ok
 returns-in-Ok c = (c.in-Ok.ensures.same, all-text (fields_of c.args.raw) (subst AllText c.in-Ok.ensures.same c.in-Ok.ensures.text))
