@@ -1,6 +1,8 @@
 -- Maps from texts as lists of entries: what look-ups and writes of the map are in the list.
-use Rattle.std.proofs.Common.{◌≡◌, ℕ, List, [], ◌∷◌, Option, Some, None, Bool, true, false, true≢false, is_some, refl, sym, ap, ◌∙◌, MutBor}
-use Rattle.std.specs.Prelude.{IsSome, OnSome, if◌then◌else◌, filter, string_cmp}
+use Rattle.std.proofs.Common.{◌≡◌, ◌-◌, ℕ, List, [], ◌∷◌, Option, Some, None, Bool, true, false, true≢false, is_some, length, refl, sym, ap, ◌∙◌, MutBor}
+use Rattle.std.proofs.lemmas.List.{length-map}
+use Rattle.std.proofs.lemmas.Option.{slice_get-map}
+use Rattle.std.specs.Prelude.{IsSome, IsTrue, OnSome, slice_get, if◌then◌else◌, filter, string_cmp}
 use Rattle.std.specs.BTreeMap.{insert_entry, is_at}
 use Rattle.std.specs.Cmp.Lexicographic.{slice_cmp}
 use Rattle.std.specs.Global.{Global}
@@ -15,7 +17,7 @@ use Rattle.std.specs.declared.string.String.{String}
 use Rattle.std.proofs.lemmas.Cmp.{nat_list_cmp_total}
 use Rattle.roster.specs.Table.{id_cmp, AllAbove, Ascend, row_of, put_row}
 use Rattle.roster.proofs.Tables.{id_same, id_trans, id_turned, id_turned_back}
-use Rattle.score_spec.specs.PairTables.{Entry, entry_id, value_of, put_value, without}
+use Rattle.score_spec.specs.PairTables.{Entry, Entries, IsLast, entry_id, value_of, put_value, without}
 use Rattle.score_spec.specs.TextMaps.{entries_of}
 
 -- how a text compares to keys
@@ -136,3 +138,40 @@ module _ {V : Type 0} where
           → entries_of (if b then e ∷ filter (λ e. test (string_bytes e.0)) es else filter (λ e. test (string_bytes e.0)) es) ≡ (if b then old ∷ filter (λ entry. test entry.id) (entries_of es) else filter (λ entry. test entry.id) (entries_of es))
       on true rest = ap (λ rows. old ∷ rows) rest
       on false rest = rest
+
+  -- the last entry
+
+  -- the last key of a map is the last id
+  pub last-key : (es : List (String Global × V)) (key : String Global) → slice_get (keys_of es) (length es - 1) ≡ Some key → IsLast (string_bytes key) (entries_of es)
+  last-key es key found =
+      let long : length (entries_of es) ≡ length es = length-map es _ in
+      rw long (ap (option_map entry_id) (slice_get-map _ es (length es - 1)) ∙ as_key (slice_get es (length es - 1)) ∙ ap (option_map string_bytes) (sym (slice_get-map (λ e. e.0) es (length es - 1)) ∙ found))
+    where
+      as_key : (o : Option (String Global × V)) → option_map entry_id (option_map (λ e. record { id = string_bytes e.0; value = e.1 }) o) ≡ option_map string_bytes (option_map (λ e. e.0) o)
+      as_key None = refl
+      as_key (Some e) = refl
+
+  -- there is one last id
+  pub one-last : (a b : List ℕ) (entries : Entries V) → IsLast a entries → IsLast b entries → a ≡ b
+  one-last a b entries is also = let both : Some a ≡ Some b = sym is ∙ also in cc
+
+  -- a text that is compared to the last key is the last id or not
+  pub last-tested : (id : List ℕ) (es : List (String Global × V)) (key : String Global) (value : V) (test : Bool) → slice_get es (length es - 1) ≡ Some (key, value) → (IsTrue test → string_bytes key ≡ id) × (string_bytes key ≡ id → IsTrue test)
+      → (IsTrue test → IsLast id (entries_of es)) × (IsLast id (entries_of es) → IsTrue test)
+  last-tested id es key value test found tests =
+      let last = last-key es key (slice_get-map (λ e. e.0) es (length es - 1) ∙ ap (option_map (λ e. e.0)) found) in
+      (λ yes. let same = tests.0 yes in rw (← same) last, λ is. tests.1 (one-last (string_bytes key) id (entries_of es) last is))
+
+  -- a write at the last key is a put at the last id
+  pub last-written : (last : List ℕ) (es now : List (String Global × V)) (key : String Global) (value : V) → slice_get (keys_of es) (length es - 1) ≡ Some key → now ≡ insert_entry string_cmp es key value
+      → IsLast last (entries_of es) → entries_of now ≡ put_value last value (entries_of es)
+  last-written last es now key value found written is =
+      let same = one-last (string_bytes key) last (entries_of es) (last-key es key found) is in
+      ap entries_of written ∙ entries-insert es key value ∙ ap (λ id. put_value id value (entries_of es)) same
+
+  -- the value at the last key is that of the last id
+  pub last-value : (last : List ℕ) (es : List (String Global × V)) (key : String Global) (value : V) → slice_get (keys_of es) (length es - 1) ≡ Some key → Some value ≡ lookup (is_at (string_cmp key)) es
+      → IsLast last (entries_of es) → value_of (entries_of es) last ≡ Some value
+  last-value last es key value found stands is =
+      let same = one-last (string_bytes key) last (entries_of es) (last-key es key found) is in
+      ap (value_of (entries_of es)) (sym same) ∙ value-entries (string_bytes key) es ∙ sym stands

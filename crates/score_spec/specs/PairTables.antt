@@ -1,5 +1,5 @@
 -- Tables of pairs: for each paper, in ascending order, its reviewers in ascending order, each with a value.
-use Rattle.std.specs.Prelude.{true, is_some, None, Bool, ◌⊎◌, ◌≢◌, ◌≡◌, ℕ, ◌+◌, ◌≤◌, List, [], length, ◌∷◌, Option, unwrap_or, if◌then◌else◌}
+use Rattle.std.specs.Prelude.{true, is_some, None, Some, Bool, ◌⊎◌, ◌≢◌, ◌≡◌, ℕ, ◌+◌, ◌-◌, ◌≤◌, List, [], length, ◌∷◌, Option, slice_get, unwrap_or, if◌then◌else◌}
 use Rattle.std.specs.Option.{option_map}
 use Rattle.std.specs.Ordering.{is_eq}
 use Rattle.match_rules.specs.Id.{is_id}
@@ -28,6 +28,10 @@ put_value id value entries = put_row entry_id (record { id = id; value = value }
 abbrev pub without : {V : Type 0} → List ℕ → Entries V → Entries V
 without id [] = []
 without id (entry ∷ entries) = if is_eq (id_cmp entry.id id) then entries else entry ∷ without id entries
+
+-- the id is that of the last entry
+abbrev pub IsLast : {V : Type 0} → List ℕ → Entries V → Type 0
+IsLast id entries = option_map entry_id (slice_get entries (length entries - 1)) ≡ Some id
 
 -- papers with their reviewers
 abbrev pub PairsValue : Type 0 → Type 0

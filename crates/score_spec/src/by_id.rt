@@ -1,8 +1,8 @@
-ghost use Rattle.std.specs.Prelude.{◌≡◌, ◌==◌, [], length, None, is_some, IsSome, IsOk, if◌then◌else◌, IfOk, OnOk, OnErr};
+ghost use Rattle.std.specs.Prelude.{◌≡◌, ◌==◌, ◌↔◌, ◌<◌, ℕ, List, [], length, None, is_some, IsSome, IsTrue, IsOk, if◌then◌else◌, IfOk, OnOk, OnErr};
 ghost use Rattle.std.specs.Borrow.{sem};
 ghost use Rattle.std.specs.Option.{option_copied, option_copied_mut};
 ghost use Rattle.std.specs.String.{string_bytes};
-ghost use Rattle.score_spec.specs.PairTables.{entry_id, put_value, value_of, without};
+ghost use Rattle.score_spec.specs.PairTables.{IsLast, entry_id, has_pair, put_pair, put_value, value_of_pair, value_of, without};
 ghost use Rattle.roster.specs.Table.{Ascend};
 ghost use Rattle.score_spec.specs.TextMaps.{entries_of};
 
@@ -103,6 +103,16 @@ impl<V> ById<V> {
         self.map.get_mut(id)
     }
 
+    // Whether the id is the last one, by one comparison.
+    pub(crate) fn is_last(&self, id: &str) -> bool
+        ensures { IsTrue result ↔ IsLast id.now self.now }
+    {
+        match self.map.last_key_value() {
+            Some((last, _)) => last.as_str() == id,
+            None => false,
+        }
+    }
+
     /// Puts a value for an id, in place of the one that it had, and answers how many ids were added: in logarithmic time,
     /// and with memory only where the id is new.
     pub(crate) fn put(&mut self, id: String, value: V) -> Result<u32, AllocError>
@@ -128,6 +138,25 @@ impl<V> ById<V> {
         ensures none { value_of self.new id.now ≡ None }
     {
         self.map.remove(id);
+    }
+}
+
+impl<V> ById<ById<V>> {
+    /// Puts a value for an id into the last table, which is found without a comparison, and answers how many ids were
+    /// added to it.
+    pub(crate) fn put_in_last(&mut self, id: String, value: V) -> Result<u32, AllocError>
+    where
+        V: Drop,
+        requires { 0 < length self.old }
+        ensures put { (last : List ℕ) → IsLast last self.old → OnOk result (self.new ≡ put_pair last (string_bytes id) value self.old) }
+        ensures more { (last : List ℕ) → IsLast last self.old → IfOk result (λ more. more ≡ (if has_pair self.old last (string_bytes id) then 0 else 1)) }
+        ensures known { (last : List ℕ) → IsLast last self.old → IsSome (value_of_pair self.old last (string_bytes id)) → IsOk result }
+        ensures kept { OnErr result (self.new ≡ self.old) }
+    {
+        match self.map.last_entry() {
+            Some(entry) => entry.into_mut().put(id, value),
+            None => unreachable!(),
+        }
     }
 }
 

@@ -30,6 +30,9 @@ pub(crate) fn put_in<V: Drop>(
     ensures known { IsSome (value_of_pair papers.old paper.now (string_bytes reviewer)) → IsOk result }
     ensures kept { OnErr result (papers.new ≡ papers.old) }
 {
+    if papers.is_last(paper) {
+        return papers.put_in_last(reviewer, value);
+    }
     if let Some(reviewers) = papers.get_mut(paper) {
         return reviewers.put(reviewer, value);
     }
