@@ -135,6 +135,7 @@ fn marks(alloc: Global) -> Result<PairTable<i32>, Fail> {
     put(alloc, &mut table, "p2", "r1", 1)?;
     put(alloc, &mut table, "p1", "r2", 2)?;
     put(alloc, &mut table, "p2", "r1", 3)?;
+    put(alloc, &mut table, "p1", "r2", 4)?;
     Ok(table)
 }
 
@@ -142,6 +143,7 @@ fn marks(alloc: Global) -> Result<PairTable<i32>, Fail> {
 fn the_last_value_of_a_pair_stands(rt: HostRuntime) -> Result<(), Fail> {
     let table = marks(rt.alloc())?.copy(rt.alloc())?;
     assert_eq!(rt; table.get("p2", "r1").copied(), Some(3));
+    assert_eq!(rt; table.get("p1", "r2").copied(), Some(4));
     assert_eq!(rt; table.get("p1", "r1").copied(), None);
     assert_eq!(rt; table.len(), 2);
     assert_eq!(rt; table.papers().len(), 2);
