@@ -1,6 +1,6 @@
 // The scores of the pairs of one paper.
 
-ghost use Rattle.std.specs.Prelude.{◌≡◌, ◌≤◌, ◌≤ℤ◌, ◌*ℤ◌, ◌++◌, ◌∷◌, [], pos, neg_ℤ, length, IfOk, OnOk};
+ghost use Rattle.std.specs.Prelude.{◌≡◌, ◌≤◌, ◌≤ℤ◌, ℕ, List, pos, neg_ℤ, length, IfOk};
 ghost use Rattle.score_spec.specs.Scores.{score_of};
 ghost use Rattle.score_spec.specs.PaperScores.{AreRowsOf, AreSourcesOf, IsPartOf, part_by, value_by};
 ghost use Rattle.score_spec.specs.declared.spec.Kind.TheVariants as kind_of;
@@ -41,8 +41,8 @@ fn rows_of_values<'a>(scores: &'a Scores, name: &str, paper: &str) -> SourceRows
     }
 }
 
-fn rows_of_bids<'a>(scores: &'a Scores, name: &str, paper: &str) -> SourceRows<'a>
-    ensures { AreRowsOf result scores.now paper.now name.now kind_of.Bids }
+fn rows_of_bids<'a>(scores: &'a Scores, paper: &str) -> SourceRows<'a>
+    ensures { (name : List ℕ) → AreRowsOf result scores.now paper.now name kind_of.Bids }
 {
     match scores.bids().papers().get(paper) {
         Some(bids) => SourceRows::Bids(bids),
@@ -55,7 +55,7 @@ fn rows_of<'a>(scores: &'a Scores, source: &SourceSpec, paper: &str) -> SourceRo
 {
     match source.kind() {
         Kind::Values => rows_of_values(scores, source.name(), paper),
-        Kind::Bids => rows_of_bids(scores, source.name(), paper),
+        Kind::Bids => rows_of_bids(scores, paper),
     }
 }
 
