@@ -1,9 +1,10 @@
 -- Rows in ascending order of their keys: what a place says of look-ups, and what a put does.
-use Rattle.std.proofs.Common.{◌≡◌, ◌≢◌, ℕ, suc, zero, ◌+◌, ◌<◌, ◌≤◌, List, [], ◌∷◌, ◌++◌, length, take, drop, get_or, set, Option, Some, None, Result, Ok, Err, true, false, refl, sym, ap, ◌∙◌, subst, arith, length-append, length-take}
+use Rattle.std.proofs.Common.{◌≡◌, ◌≢◌, ◌⊎◌, inl, inr, ℕ, suc, zero, ◌+◌, ◌<◌, ◌≤◌, List, [], ◌∷◌, ◌++◌, length, take, drop, get_or, set, Option, Some, None, Result, Ok, Err, Bool, true, false, refl, sym, ap, ◌∙◌, subst, arith, length-append, length-take}
 use Rattle.std.proofs.Math.Seq.{take-append_seam, drop-append_seam}
 use Rattle.std.proofs.Math.ListN.{length-set}
 use Rattle.std.proofs.lemmas.List.{take-append-drop}
 use Rattle.std.proofs.lemmas.List.Edits.{length-insert}
+use Rattle.std.specs.Option.{option_map}
 use Rattle.std.specs.Prelude.{if◌then◌else◌, IsSome, OnOk, OnErr}
 use Rattle.std.specs.List.{insert}
 use Rattle.std.specs.List.Sorted.{IsSearchInRange, IsBinarySearchResult}
@@ -226,6 +227,30 @@ module _ {R : Type 0} (key : R → List ℕ) where
       on Less e = absurd cc
       on Equal e = refl
       on Greater e = absurd cc
+
+  -- the row at the place of an id has it
+
+  place-step : (b : Bool) (later : Option ℕ) (i : ℕ) → (if b then Some 0 else option_map (λ n. n + 1) later) ≡ Some i → ((b ≡ true) × (i ≡ 0)) ⊎ ((n : ℕ) × (later ≡ Some n) × (i ≡ suc n))
+  place-step true later i found = inl (refl, let first : 0 ≡ i = cc in sym first)
+  place-step false None i found = absurd cc
+  place-step false (Some n) i found = inr (n, refl, let next : i ≡ n + 1 = cc in omega (arith, next))
+
+  pub place-within : (id : List ℕ) (rows : List R) (i : ℕ) → place_of key id rows ≡ Some i → i < length rows
+  place-within id [] i found = absurd cc
+  place-within id (row ∷ rows) i found = on (place-step (is_eq (id_cmp (key row) id)) (place_of key id rows) i found) (place-within id rows)
+    where
+      on : ((is_eq (id_cmp (key row) id) ≡ true) × (i ≡ 0)) ⊎ ((n : ℕ) × (place_of key id rows ≡ Some n) × (i ≡ suc n)) → ((n : ℕ) → place_of key id rows ≡ Some n → n < length rows) → i < length (row ∷ rows)
+      on (inl first) rest = omega (arith, first.1)
+      on (inr next) rest = omega (arith, next.2, rest next.0 next.1)
+
+  pub row-of-place : (id : List ℕ) (rows : List R) (i : ℕ) (d : R) → place_of key id rows ≡ Some i → is_eq (id_cmp (key (get_or rows i d)) id) ≡ true
+  row-of-place id [] i d found = absurd cc
+  row-of-place id (row ∷ rows) i d found = on (place-step (is_eq (id_cmp (key row) id)) (place_of key id rows) i found) (λ n. row-of-place id rows n d)
+    where
+      on : ((is_eq (id_cmp (key row) id) ≡ true) × (i ≡ 0)) ⊎ ((n : ℕ) × (place_of key id rows ≡ Some n) × (i ≡ suc n))
+          → ((n : ℕ) → place_of key id rows ≡ Some n → is_eq (id_cmp (key (get_or rows n d)) id) ≡ true) → is_eq (id_cmp (key (get_or (row ∷ rows) i d)) id) ≡ true
+      on (inl first) rest = subst (λ k. is_eq (id_cmp (key (get_or (row ∷ rows) k d)) id) ≡ true) (sym first.1) first.0
+      on (inr next) rest = subst (λ k. is_eq (id_cmp (key (get_or (row ∷ rows) k d)) id) ≡ true) (sym next.2) (rest next.0 next.1)
 
   pub found_row : (id : List ℕ) (rows : List R) (i : ℕ) (d : R) → IsAt key id rows i → (i < length rows) × (row_of key id rows ≡ Some (get_or rows i d))
   found_row id rows i d at =

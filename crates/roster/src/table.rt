@@ -63,7 +63,7 @@ fn find<R: Row>(rows: &[R], id: &str) -> Result<usize, usize>
 // Whether a row at this place has this key.
 fn has_at<R: Row>(rows: &[R], place: u32, id: &str) -> bool
     requires { Ascend R.key rows.now }
-    ensures { IsTrue result → place_of R.key id.now rows.now ≡ Some place }
+    ensures { IsTrue result ↔ (place_of R.key id.now rows.now ≡ Some place) }
 {
     match rows.get(place as usize) {
         Some(row) => row.key().cmp(id).is_eq(),
