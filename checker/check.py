@@ -1,0 +1,358 @@
+#!/usr/bin/env python3
+"""Checks a certificate without the kit, in plain Python.
+
+Reads a certificate on standard input and writes the line, and ends with the status, of `matcher check`. It was written
+from docs/FORMATS.md alone, so that authors and reviewers can check a published lottery with nothing but this file.
+
+usage: python3 checker/check.py < CERTIFICATE
+"""
+
+import sys
+from collections import Counter
+
+TICKETS = 10_000
+MOST_LINE = 2_097_152
+MOST_SCORE = 8_000_000_000
+MOST_PRICE = 10**16
+MOST_TOTAL = 10**18
+MOST_AMOUNT = 2**64 - 1
+
+VALID, BROKEN, REFUSED = 0, 1, 6
+
+# Unicode's White_Space, as far as it isn't a control character, which no id holds anyway.
+WHITE_SPACE = {0x20, 0xA0, 0x1680, *range(0x2000, 0x200B), 0x2028, 0x2029, 0x202F, 0x205F, 0x3000}
+
+
+class Refused(Exception):
+    """The input is no certificate."""
+
+
+def require(holds):
+    if not holds:
+        raise Refused
+
+
+# ---- lines, fields and numbers
+
+
+class Lines:
+    """The lines of a text, one after another."""
+
+    def __init__(self, text):
+        self.text = text
+        self.at = 0
+
+    def next(self):
+        end = self.text.find(b"\n", self.at)
+        require(end >= 0 and end - self.at <= MOST_LINE)
+        line = self.text[self.at : end]
+        self.at = end + 1
+        try:
+            return line.decode("utf-8")
+        except UnicodeDecodeError:
+            raise Refused from None
+
+    def fixed(self, line):
+        require(self.next() == line)
+
+    def counted(self, word, least, greatest):
+        """The number of a line of a word and a number."""
+        fields = self.next().split(" ")
+        require(len(fields) == 2 and fields[0] == word)
+        return number(fields[1], least, greatest)
+
+    def section(self, word, least, greatest, item):
+        """The items of a section: a line with their number, and a line for each."""
+        count = self.counted(word, least, greatest)
+        items = []
+        for _ in range(count):
+            items.append(item(self.next(), items))
+        return items
+
+    def end(self):
+        require(self.at == len(self.text))
+
+
+def number(text, least, greatest):
+    require(text.isascii() and text.isdigit())
+    require(text == "0" or text[0] != "0")
+    # (a text of more digits than any limit has is out of range, and Python would refuse to read a very long one)
+    require(len(text) <= 20)
+    value = int(text)
+    require(least <= value <= greatest)
+    return value
+
+
+def signed(text, greatest):
+    if text.startswith("-"):
+        return -number(text[1:], 1, greatest)
+    return number(text, 0, greatest)
+
+
+def ascend(items):
+    return all(a < b for a, b in zip(items, items[1:]))
+
+
+def named(text, forbidden):
+    """The bytes of an id."""
+    value = text.encode("utf-8")
+    require(1 <= len(value) <= 128)
+    for char in text:
+        code = ord(char)
+        require(code > 0x1F and not 0x7F <= code <= 0x9F)
+        require(code not in WHITE_SPACE and char not in forbidden)
+    return value
+
+
+def identifier(text):
+    return named(text, ',"')
+
+
+def institution(text):
+    return named(text, ',";')
+
+
+# ---- the rules
+
+
+class Rules:
+    """The rules of an edition, by places."""
+
+    def __init__(self, limit, papers, reviewers, pairs):
+        self.limit = limit
+        self.papers = papers  # (id, demand)
+        self.reviewers = reviewers  # (id, least, greatest, institution or None)
+        self.pairs = pairs  # (paper, reviewer, score, floor, cap)
+        keys = [(p, reviewers[r][3]) for p, r, *_ in pairs]
+        self.groups = sorted({key for key in keys if key[1] is not None})
+        place = {key: g for g, key in enumerate(self.groups)}
+        self.group_of = [place.get(key) for key in keys]
+        self.locked = [e for e, pair in enumerate(pairs) if pair[3] == TICKETS]
+
+
+def read_paper(line, before):
+    fields = line.split(" ")
+    require(len(fields) == 2)
+    paper = (identifier(fields[0]), number(fields[1], 0, 100))
+    require(not before or before[-1][0] < paper[0])
+    return paper
+
+
+def read_reviewer(line, before):
+    fields = line.split(" ")
+    require(len(fields) in (3, 4))
+    greatest = number(fields[2], 0, 1500)
+    least = number(fields[1], 0, greatest)
+    home = institution(fields[3]) if len(fields) == 4 else None
+    reviewer = (identifier(fields[0]), least, greatest, home)
+    require(not before or before[-1][0] < reviewer[0])
+    return reviewer
+
+
+def read_pair(papers, reviewers):
+    def read(line, before):
+        fields = line.split(" ")
+        require(len(fields) == 5)
+        paper = number(fields[0], 0, len(papers) - 1)
+        reviewer = number(fields[1], 0, len(reviewers) - 1)
+        score = signed(fields[2], MOST_SCORE)
+        cap = number(fields[4], 0, TICKETS)
+        floor = number(fields[3], 0, cap)
+        require(floor in (0, TICKETS))
+        require(not before or before[-1][:2] < (paper, reviewer))
+        return (paper, reviewer, score, floor, cap)
+
+    return read
+
+
+def read_rules(lines):
+    lines.fixed("rules 1")
+    lines.fixed("tickets 10000")
+    limit = lines.counted("limit", 1, 1500)
+    papers = lines.section("papers", 0, 1500, read_paper)
+    require(sum(demand for _, demand in papers) <= 4500)
+    reviewers = lines.section("reviewers", 0, 1500, read_reviewer)
+    pairs = lines.section("pairs", 0, 250_000, read_pair(papers, reviewers))
+    lines.fixed("end rules")
+    return Rules(limit, papers, reviewers, pairs)
+
+
+# ---- the answer
+
+
+def read_places(line, word, count):
+    """The ascending places behind a word, of which there may be none."""
+    fields = line.split(" ")
+    require(fields[0] == word)
+    places = [number(field, 0, count - 1) for field in fields[1:]]
+    require(ascend(places))
+    return places
+
+
+def read_piece(pairs):
+    def read(line, before):
+        fields = line.split(" ")
+        weight = number(fields[0], 1, TICKETS)
+        places = [number(field, 0, pairs - 1) for field in fields[1:]]
+        require(ascend(places) and (not before or before[-1][1] < places))
+        return (weight, places)
+
+    return read
+
+
+def read_lottery(rules, lines):
+    lines.fixed("mode whole")
+    lines.fixed("threshold none")
+    fields = lines.next().split(" ")
+    require(len(fields) == 2 and fields[0] == "total")
+    total = signed(fields[1], MOST_TOTAL)
+
+    def prices(word, count):
+        return lines.section(word, count, count, lambda line, _: signed(line, MOST_PRICE))
+
+    papers = prices("paper-prices", len(rules.papers))
+    groups = prices("group-prices", len(rules.groups))
+    reviewers = prices("reviewer-prices", len(rules.reviewers))
+    count = len(rules.pairs)
+    shares = lines.section("shares", count, count, lambda line, _: number(line, 0, TICKETS))
+    lines.fixed("cut none")
+    pieces = lines.section("pieces", 0, TICKETS, read_piece(count))
+    lines.fixed("end lottery")
+    return total, papers, groups, reviewers, shares, pieces
+
+
+def read_infeasible(rules, lines):
+    lines.fixed("mode whole")
+    side = lines.next()
+    require(side in ("cut into", "cut out-of"))
+    papers = read_places(lines.next(), "marked-papers", len(rules.papers))
+    groups = read_places(lines.next(), "marked-groups", len(rules.groups))
+    reviewers = read_places(lines.next(), "marked-reviewers", len(rules.reviewers))
+    need = lines.counted("need", 0, MOST_AMOUNT)
+    room = lines.counted("room", 0, MOST_AMOUNT)
+    lines.fixed("end infeasible")
+    return side, set(papers), set(groups), set(reviewers), need, room
+
+
+# ---- the clauses
+
+
+def broken_piece(rules, pieces):
+    """The first of the clauses 2 to 5 that a piece breaks."""
+    for k, (_, places) in enumerate(pieces):
+        counts = Counter(rules.pairs[e][0] for e in places)
+        for p, (_, demand) in enumerate(rules.papers):
+            if counts[p] != demand:
+                return f"broken 2 piece {k} paper {p} count {counts[p]}"
+    for k, (_, places) in enumerate(pieces):
+        counts = Counter(rules.pairs[e][1] for e in places)
+        for r, (_, least, greatest, _) in enumerate(rules.reviewers):
+            if not least <= counts[r] <= greatest:
+                return f"broken 3 piece {k} reviewer {r} count {counts[r]}"
+    for k, (_, places) in enumerate(pieces):
+        counts = Counter(rules.group_of[e] for e in places)
+        for g in range(len(rules.groups)):
+            if counts[g] > rules.limit:
+                return f"broken 4 piece {k} group {g} count {counts[g]}"
+    for k, (_, places) in enumerate(pieces):
+        held = set(places)
+        for e in rules.locked:
+            if e not in held:
+                return f"broken 5 piece {k} pair {e}"
+    return None
+
+
+def bound_of(rules, papers, groups, reviewers):
+    bound = sum(demand * a for (_, demand), a in zip(rules.papers, papers))
+    bound += sum(rules.limit * b for b in groups if b > 0)
+    bound += sum(max(least * c, greatest * c) for (_, least, greatest, _), c in zip(rules.reviewers, reviewers))
+    bound *= TICKETS
+    for (p, r, score, floor, cap), g in zip(rules.pairs, rules.group_of):
+        rest = score - papers[p] - reviewers[r] - (0 if g is None else groups[g])
+        bound += max(floor * rest, cap * rest)
+    return bound
+
+
+def judge_lottery(rules, answer):
+    total, papers, groups, reviewers, shares, pieces = answer
+    weights = sum(weight for weight, _ in pieces)
+    if weights != TICKETS:
+        return f"broken 1 sum {weights}"
+    broken = broken_piece(rules, pieces)
+    if broken:
+        return broken
+    times = Counter()
+    for weight, places in pieces:
+        for e in places:
+            times[e] += weight
+    for e, share in enumerate(shares):
+        if times[e] != share:
+            return f"broken 6 pair {e} printed {share} counted {times[e]}"
+    for e, pair in enumerate(rules.pairs):
+        if times[e] > pair[4]:
+            return f"broken 7 pair {e}"
+    counted = sum(share * pair[2] for share, pair in zip(shares, rules.pairs))
+    if counted != total:
+        return f"broken 11 printed {total} counted {counted}"
+    bound = bound_of(rules, papers, groups, reviewers)
+    if bound != total:
+        return f"broken 12 total {total} bound {bound}"
+    return f"valid whole threshold none total {total} pieces {len(pieces)}"
+
+
+def sums_of_cut(rules, side, papers, groups, reviewers):
+    """The need and the room of a cut."""
+    demand = TICKETS * sum(rules.papers[p][1] for p in papers)
+    entering = leaving = entering_floors = leaving_floors = 0
+    for (p, r, _, floor, cap), g in zip(rules.pairs, rules.group_of):
+        tail = p in papers if g is None else g in groups
+        head = r in reviewers
+        if head and not tail:
+            entering, entering_floors = entering + cap, entering_floors + floor
+        if tail and not head:
+            leaving, leaving_floors = leaving + cap, leaving_floors + floor
+    of_paper = [p in papers for p, _ in rules.groups]
+    if side == "cut into":
+        room = TICKETS * sum(rules.reviewers[r][2] for r in reviewers) + leaving
+        room += TICKETS * rules.limit * sum(1 for g, marked in enumerate(of_paper) if marked and g not in groups)
+        return demand + entering_floors, room
+    need = TICKETS * sum(rules.reviewers[r][1] for r in reviewers) + leaving_floors
+    room = demand + entering
+    room += TICKETS * rules.limit * sum(1 for g, marked in enumerate(of_paper) if not marked and g in groups)
+    return need, room
+
+
+def judge_infeasible(rules, answer):
+    side, papers, groups, reviewers, printed_need, printed_room = answer
+    need, room = sums_of_cut(rules, side, papers, groups, reviewers)
+    if (need, room) != (printed_need, printed_room):
+        return f"broken 13 need {need} room {room}"
+    if need <= room:
+        return f"broken 14 need {need} room {room}"
+    return f"valid infeasible need {need} room {room}"
+
+
+def check(text):
+    """The line and the status for the bytes of a certificate."""
+    try:
+        lines = Lines(text)
+        rules = read_rules(lines)
+        kind = lines.next()
+        require(kind in ("lottery 1", "infeasible 1"))
+        lottery = kind == "lottery 1"
+        answer = (read_lottery if lottery else read_infeasible)(rules, lines)
+        lines.end()
+    except Refused:
+        return "refused text", REFUSED
+    line = (judge_lottery if lottery else judge_infeasible)(rules, answer)
+    return line, VALID if line.startswith("valid") else BROKEN
+
+
+def main():
+    line, status = check(sys.stdin.buffer.read())
+    print(line)
+    return status
+
+
+if __name__ == "__main__":
+    sys.exit(main())
