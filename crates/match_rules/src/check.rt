@@ -14,7 +14,7 @@ use crate::breaks::Break;
 use crate::group_check::broken_group;
 use crate::lists::Shares;
 use crate::lottery::{Lottery, Piece};
-use crate::rules::Rules;
+use crate::rules::{MOST_PAIRS, MOST_TICKETS, Rules};
 use std::alloc::{AllocError, Global};
 use std::marker::Model;
 
@@ -247,8 +247,8 @@ fn broken_piece(
 // Adds a weight for each of the places.
 fn add_weight(places: &[u32], weight: u32, counts: &mut [u64])
     requires places { All (λ e. e < length counts.old) places.now }
-    requires few { length places.now ≤ 250000 }
-    requires weight { weight ≤ 10000 }
+    requires few { length places.now ≤ MOST_PAIRS }
+    requires weight { weight ≤ MOST_TICKETS }
     requires fits { (e : ℕ) → e < length counts.old → slice_index counts.old e ≤ 2 ^ 62 }
     ensures { AreCounts counts.new (length counts.old) (λ e. slice_index counts.old e + weight * holds places.now e) }
 {
@@ -274,7 +274,7 @@ fn count_times(rules: &Rules, pieces: &[Piece], counts: &mut [u64])
 // Clause 6, over counted weights.
 fn broken_share(shares: &[u32], counts: &[u64]) -> Option<Break>
     requires size { length shares.now ≡ length counts.now }
-    requires few { length counts.now ≤ 250000 }
+    requires few { length counts.now ≤ MOST_PAIRS }
     ensures { result ≡ first_below (length counts.now) (share_counted shares.now counts.now) }
 {
     for (e, share) in shares.iter().enumerate() {

@@ -6,12 +6,12 @@ ghost use Rattle.match_rules.specs.RulesFaults.{IsFaultOf};
 
 use crate::groups::group_table;
 use crate::parts::{pair_fault, paper_fault, reviewer_fault};
-use crate::rules::{MOST_TICKETS, RulePair, RulePaper, RuleReviewer, Rules, RulesFault};
+use crate::rules::{MOST_LIMIT, MOST_PAIRS, MOST_TICKETS, RulePair, RulePaper, RuleReviewer, Rules, RulesFault};
 use std::alloc::{AllocError, Global};
 
 // The places of the pairs whose floor is all tickets, ascending.
 fn locked_of(alloc: Global, pairs: &[RulePair]) -> Result<Vec<u32>, AllocError>
-    requires { length pairs.now ≤ 250000 }
+    requires { length pairs.now ≤ MOST_PAIRS }
     ensures { IfOk result (λ places. places.items ≡ locked_places (rules_value 0 [] [] pairs.now)) }
 {
     let mut places = Vec::new(alloc);
@@ -22,8 +22,6 @@ fn locked_of(alloc: Global, pairs: &[RulePair]) -> Result<Vec<u32>, AllocError>
     }
     Ok(places)
 }
-
-const MOST_LIMIT: u32 = 1_500;
 
 impl Rules {
     /// The rules of a limit and three lists. Papers and reviewers ascend by the

@@ -1,6 +1,6 @@
 // The rules of one edition: papers, reviewers and candidate pairs.
 
-ghost use Rattle.std.specs.Prelude.{◌≡◌, ◌↔◌, ◌<◌, ◌≤◌, length, IfOk, IfSome, IsNone, None, Some};
+ghost use Rattle.std.specs.Prelude.{◌≡◌, ◌↔◌, ◌<◌, ◌≤◌, length, IfOk, IfSome, IsNone, IsTrue, None, Some};
 ghost use Rattle.match_rules.specs.Groups.{group_count, group_of, group_key, first_member, paper_of_group};
 ghost use Rattle.match_rules.specs.GroupTable.{IsGroupTable};
 ghost use Rattle.match_rules.specs.Rules.{RulesValue, AreRules, locked_places, pair_at, reviewer_at, rules_value};
@@ -12,6 +12,30 @@ use std::marker::Model;
 
 /// The greatest number of tickets that a lottery is split over.
 pub const MOST_TICKETS: u32 = 10_000;
+
+/// The greatest number of papers.
+pub const MOST_PAPERS: u32 = 1_500;
+
+/// The greatest number of reviewers.
+pub const MOST_REVIEWERS: u32 = 1_500;
+
+/// The greatest number of candidate pairs.
+pub const MOST_PAIRS: u32 = 250_000;
+
+/// The greatest number of reviewers that one paper may demand.
+pub const MOST_DEMAND: u32 = 100;
+
+/// The greatest number of reviewers that all papers together may demand.
+pub const MOST_DEMAND_IN_ALL: u32 = 4_500;
+
+/// The greatest number of papers that one reviewer may be given.
+pub const MOST_LOAD: u32 = 1_500;
+
+/// The greatest limit on the reviewers of one institution for one paper.
+pub const MOST_LIMIT: u32 = 1_500;
+
+/// The greatest magnitude of a score, in 10^-6.
+pub const MOST_SCORE: u64 = 8_000_000_000;
 
 /// A paper with the number of reviewers that it needs in each assignment.
 #[derive(Drop)]
@@ -80,6 +104,23 @@ pub struct RulePair {
     pub floor: u32,
     /// The greatest number of tickets.
     pub cap: u32,
+}
+
+impl RulePair {
+    ghost use Rattle.match_rules.specs.Rules.{IsPairBefore};
+
+    /// Whether this pair stands before another: by the place of the paper, and then that of the reviewer.
+    pub fn is_before(&self, other: &RulePair) -> bool
+        ensures { IsTrue result ↔ IsPairBefore self.now other.now }
+    {
+        if self.paper < other.paper {
+            return true;
+        }
+        if self.paper > other.paper {
+            return false;
+        }
+        self.reviewer < other.reviewer
+    }
 }
 
 /// The rules of one edition, which keep all conditions of a lottery: papers,
