@@ -47,8 +47,7 @@ pub enum Sieve {
     },
 }
 
-/// Marked papers, groups and reviewers: evidence that nothing fits, where
-/// more has to pass than may pass.
+/// Marked papers, groups and reviewers: evidence that nothing fits, where more has to pass than may pass.
 #[derive(Drop)]
 pub struct Cut {
     /// Which way is counted.

@@ -1,5 +1,4 @@
-// The groups of rules, counted once: the group of each pair, and the first
-// pair of each group.
+// The groups of rules, counted once: the group of each pair, and the first pair of each group.
 
 ghost use Rattle.std.specs.Prelude.{◌≡◌, ◌↔◌, ℕ, ◌+◌, ◌<◌, ◌≤◌, List, length, map, slice_index, slice_index_or, IfOk, Option, None, Some};
 ghost use Rattle.std.specs.List.{Contains, filter_map};
@@ -213,13 +212,11 @@ fn first_pairs(alloc: Global, groups: &[Option<u32>], count: usize) -> Result<Ve
 pub struct Group {
     /// The place of the paper.
     pub paper: u32,
-    /// The place of the first reviewer of the institution who has a pair with
-    /// the paper.
+    /// The place of the first reviewer of the institution who has a pair with the paper.
     pub reviewer: u32,
 }
 
-/// The groups of rules: the group of each pair, and the first pair of each
-/// group.
+/// The groups of rules: the group of each pair, and the first pair of each group.
 #[derive(Drop)]
 pub(crate) struct GroupTable {
     pub(crate) of_pair: Vec<Option<u32>>,
@@ -237,8 +234,7 @@ impl GroupTable {
     }
 }
 
-// The group of each pair and the first pair of each group, by the numbers of
-// the pairs and these numbers in order.
+// The group of each pair and the first pair of each group, by the numbers of the pairs and these numbers in order.
 fn table_of(alloc: Global, codes: &[Option<u32>], numbers: &[u32]) -> Result<GroupTable, AllocError>
     requires few_pairs { length codes.now ≤ MOST_PAIRS }
     requires few { length numbers.now ≤ MOST_PAIRS }

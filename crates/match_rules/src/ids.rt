@@ -76,8 +76,8 @@ impl Name {
     }
 }
 
-/// The id of a paper: 1 to 128 bytes of UTF-8 without white space, control
-/// characters, commas and quotation marks. Ids are ordered by their bytes.
+/// The id of a paper: 1 to 128 bytes of UTF-8 without white space, control characters, commas and quotation marks. Ids
+/// are ordered by their bytes.
 #[derive(Drop)]
 pub struct PaperId {
     name: Name,

@@ -16,6 +16,7 @@ mod matching;
 mod parts;
 mod pieces;
 mod rules;
+mod sizes;
 
 pub use answer::{
     Answer, Blocked, Cut, Level, MOST_PRICE, MOST_TOTAL, Mode, Prices, Side, Sieve, Winning,
@@ -31,6 +32,7 @@ pub use lists::{Places, PriceList, Shares};
 pub use lottery::{Lottery, Piece};
 pub use matching::matches;
 pub use rules::{
-    MOST_DEMAND, MOST_DEMAND_IN_ALL, MOST_LIMIT, MOST_LOAD, MOST_PAIRS, MOST_PAPERS, MOST_REVIEWERS, MOST_SCORE,
-    MOST_TICKETS, RulePair, RulePaper, RuleReviewer, Rules, RulesFault,
+    MOST_DEMAND, MOST_DEMAND_IN_ALL, MOST_LIMIT, MOST_LOAD, MOST_PAIRS, MOST_PAPERS,
+    MOST_REVIEWERS, MOST_SCORE, MOST_TICKETS, RulePair, RulePaper, RuleReviewer, Rules, RulesFault,
 };
+pub use sizes::Sizes;

@@ -127,8 +127,7 @@ impl PriceList {
     }
 }
 
-/// The shares of the candidate pairs, by their places: one number of tickets
-/// for each pair.
+/// The shares of the candidate pairs, by their places: one number of tickets for each pair.
 #[derive(Drop)]
 pub struct Shares {
     tickets: Vec<u32>,

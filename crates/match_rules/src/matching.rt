@@ -121,8 +121,8 @@ fn winning_matches(rules: &Rules, winning: &Winning) -> bool
     lottery_matches(rules, &winning.lottery)
 }
 
-/// Whether all lists of an answer have the lengths that the rules ask for, its
-/// places are places of the rules, and its numbers are within their limits.
+/// Whether all lists of an answer have the lengths that the rules ask for, its places are places of the rules, and its
+/// numbers are within their limits.
 pub fn matches(rules: &Rules, answer: &Answer) -> bool
     ensures { IsTrue result ↔ AnswerMatches rules.now answer.now }
 {

@@ -7,12 +7,11 @@ ghost use Rattle.match_rules.specs.NextRows.{demand_below, IsNextPaper, IsNextRe
 
 use crate::magnitudes::is_within;
 use crate::rules::{
-    MOST_DEMAND, MOST_DEMAND_IN_ALL, MOST_LOAD, MOST_PAIRS, MOST_PAPERS, MOST_REVIEWERS, MOST_SCORE, MOST_TICKETS,
-    RulePair, RulePaper, RuleReviewer,
+    MOST_DEMAND, MOST_DEMAND_IN_ALL, MOST_LOAD, MOST_PAIRS, MOST_PAPERS, MOST_REVIEWERS,
+    MOST_SCORE, MOST_TICKETS, RulePair, RulePaper, RuleReviewer,
 };
 
-// Whether a paper may follow the papers before it, which demand this many
-// reviewers.
+// Whether a paper may follow the papers before it, which demand this many reviewers.
 fn is_next_paper(papers: &[RulePaper], p: usize, before: u32) -> bool
     requires within { p < length papers.now }
     requires before { before ≡ demand_below papers.now p }

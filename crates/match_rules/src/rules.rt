@@ -1,7 +1,8 @@
 // The rules of one edition: papers, reviewers and candidate pairs.
 
 ghost use Rattle.std.specs.Prelude.{◌≡◌, ◌↔◌, ◌<◌, ◌≤◌, length, IfOk, IfSome, IsNone, IsTrue, None, Some};
-ghost use Rattle.match_rules.specs.Groups.{group_count, group_of, group_key, first_member, paper_of_group};
+ghost use Rattle.std.specs.List.Sorted.{IsStrictlySortedBy};
+ghost use Rattle.match_rules.specs.Groups.{groups, group_count, group_of, group_key, key_cmp, first_member, paper_of_group};
 ghost use Rattle.match_rules.specs.GroupTable.{IsGroupTable};
 ghost use Rattle.match_rules.specs.Rules.{RulesValue, AreRules, locked_places, pair_at, reviewer_at, rules_value};
 
@@ -123,8 +124,8 @@ impl RulePair {
     }
 }
 
-/// The rules of one edition, which keep all conditions of a lottery: papers,
-/// reviewers and pairs strictly ascend, and every number is within its limit.
+/// The rules of one edition, which keep all conditions of a lottery: papers, reviewers and pairs strictly ascend, and
+/// every number is within its limit.
 #[derive(Drop)]
 pub struct Rules {
     tickets: u32,
@@ -150,8 +151,8 @@ impl Model for Rules {
         × IsGroupTable (record { tickets = r.tickets; limit = r.limit; papers = r.papers.items; reviewers = r.reviewers.items; pairs = r.pairs.items }) r.groups.of_pair.items r.groups.firsts.items };
 }
 
-/// Why rules were refused: the first part, in the order limit, papers,
-/// reviewers, pairs, that breaks a condition, and its first place that does.
+/// Why rules were refused: the first part, in the order limit, papers, reviewers, pairs, that breaks a condition, and
+/// its first place that does.
 #[derive(Debug, Clone, Copy, PartialEq, Eq)]
 pub enum RulesFault {
     /// The limit isn't 1 to 1,500.
@@ -167,8 +168,7 @@ pub enum RulesFault {
 }
 
 impl Rules {
-    // The rules of a limit and three lists, with the places of the locked pairs
-    // and the groups.
+    // The rules of a limit and three lists, with the places of the locked pairs and the groups.
     pub(crate) fn of_parts(
         limit: u32,
         papers: Vec<RulePaper>,
@@ -201,8 +201,7 @@ impl Rules {
         self.tickets
     }
 
-    /// The greatest number of reviewers of one institution that one paper may
-    /// have in an assignment, 1 to 1,500.
+    /// The greatest number of reviewers of one institution that one paper may have in an assignment, 1 to 1,500.
     pub fn limit(&self) -> u32
         ensures value { result ≡ self.now.limit }
         ensures kept { AreRules self.now }
@@ -228,8 +227,7 @@ impl Rules {
         self.reviewers.as_slice()
     }
 
-    /// The candidate pairs, ascending by the place of the paper and then that
-    /// of the reviewer.
+    /// The candidate pairs, ascending by the place of the paper and then that of the reviewer.
     pub fn pairs(&self) -> &[RulePair]
         ensures value { result.now ≡ self.now.pairs }
         ensures len { length result.now ≡ length self.now.pairs }
@@ -245,12 +243,12 @@ impl Rules {
         self.locked.as_slice()
     }
 
-    /// The number of groups. A group is a paper and an institution, of which a
-    /// reviewer has a pair with the paper; groups ascend by the place of the
-    /// paper and then the bytes of the institution.
+    /// The number of groups. A group is a paper and an institution, of which a reviewer has a pair with the paper;
+    /// groups ascend by the place of the paper and then the bytes of the institution.
     pub fn group_count(&self) -> u32
         ensures value { result ≡ group_count self.now }
         ensures few { result ≤ length self.now.pairs }
+        ensures ascending { IsStrictlySortedBy key_cmp (groups self.now) }
         ensures kept { AreRules self.now }
     {
         self.groups.firsts.len() as u32
@@ -267,8 +265,7 @@ impl Rules {
         self.groups.of_pair[pair as usize]
     }
 
-    /// The paper of a group, and the first reviewer of its institution who has
-    /// a pair with the paper.
+    /// The paper of a group, and the first reviewer of its institution who has a pair with the paper.
     pub fn group_at(&self, group: u32) -> Group
         requires { group < group_count self.now }
         ensures paper { result.paper ≡ paper_of_group self.now group }
