@@ -16,6 +16,8 @@ mod matching;
 mod parts;
 mod pieces;
 mod rules;
+mod scores;
+mod sieves;
 mod sizes;
 
 pub use answer::{
@@ -35,4 +37,6 @@ pub use rules::{
     MOST_DEMAND, MOST_DEMAND_IN_ALL, MOST_LIMIT, MOST_LOAD, MOST_PAIRS, MOST_PAPERS,
     MOST_REVIEWERS, MOST_SCORE, MOST_TICKETS, RulePair, RulePaper, RuleReviewer, Rules, RulesFault,
 };
+pub use scores::shares_score;
+pub use sieves::sieve_laws;
 pub use sizes::Sizes;
