@@ -3,12 +3,9 @@
 
 mod amounts;
 mod cuts;
-mod keeps;
 mod marks;
 mod prices;
 mod sums;
-#[cfg(test)]
-mod tests;
 
 pub use cuts::{excess, is_violated};
 pub use prices::{bound, is_best};

@@ -1,38 +1,20 @@
 -- The first rows of a list keep all conditions exactly where each of them keeps those of a next row.
 use Rattle.std.proofs.Common.{◌≡◌, ℕ, zero, suc, ◌+◌, ◌<◌, ◌≤◌, List, length, take, true, Some, refl, ap, arith, add-one}
-use Rattle.std.proofs.Common.{inl, inr}
-use Rattle.std.proofs.lemmas.Bool.{cases_lt}
 use Rattle.std.proofs.lemmas.List.{get_or-take, length-take-le, take_all}
 use Rattle.std.specs.declared.cmp.Ordering.TheVariants.{Less}
+use Rattle.match_rules.specs.declared.rules.TheConstants.{MOST_PAPERS, MOST_REVIEWERS, MOST_PAIRS, MOST_DEMAND, MOST_DEMAND_IN_ALL, MOST_LOAD}
 use Rattle.match_rules.specs.declared.rules.RulePaper.{RulePaper}
 use Rattle.match_rules.specs.declared.rules.RuleReviewer.{RuleReviewer}
 use Rattle.match_rules.specs.declared.rules.RulePair.{RulePair}
 use Rattle.match_rules.specs.Id.{is_id, is_institution}
 use Rattle.match_rules.specs.Rules.{no_paper, no_reviewer, no_pair, paper_in, reviewer_in, pair_in, id_cmp, IsPair, IsPairBefore, ArePapers, AreReviewers, ArePairs, IsFirstFault}
 use Rattle.match_rules.specs.NextRows.{demand_below, IsNextPaper, IsNextReviewer, IsNextPair}
-use Rattle.match_rules.specs.Sums.{count_below}
+use Rattle.match_rules.proofs.SumLaws.{count_below-same, count_below-le}
 
 -- a count, below a limit where each place below it is
 pub few_below : (n limit : ℕ) → ((p : ℕ) → p < n → p < limit) → n ≤ limit
 few_below zero limit each = omega arith
 few_below (suc n) limit each = let last : n < limit = each n (omega arith) in omega arith
-
--- equal addends have equal sums
-pub count_below-same : (n : ℕ) (f g : ℕ → ℕ) → ((k : ℕ) → k < n → f k ≡ g k) → count_below n f ≡ count_below n g
-count_below-same zero f g same = refl
-count_below-same (suc n) f g same =
-    let before : count_below n f ≡ count_below n g = count_below-same n f g (λ k h. same k (omega arith)) in
-    let last : f n ≡ g n = same n (omega arith) in
-    omega arith
-
--- a sum over fewer places is no greater
-pub count_below-le : (n m : ℕ) (f : ℕ → ℕ) → m ≤ n → count_below m f ≤ count_below n f
-count_below-le zero m f h = let none : m ≡ 0 = omega arith in rw none (omega arith)
-count_below-le (suc n) m f h =
-    elim (cases_lt m (suc n)) [
-      | inl below ↦ (let step : count_below m f ≤ count_below n f = count_below-le n m f (omega arith) in omega arith)
-      | inr above ↦ (let all : m ≡ suc n = omega arith in rw all (omega arith))
-    ]
 
 -- the papers
 paper_in-take : (papers : List RulePaper) (n p : ℕ) → p < n → paper_in (take n papers) p ≡ paper_in papers p
@@ -42,17 +24,17 @@ demand_below-take : (papers : List RulePaper) (n m : ℕ) → m ≤ n → demand
 demand_below-take papers n m h =
     count_below-same m _ _ (λ k below. ap (λ (paper : RulePaper). paper.demand) (paper_in-take papers n k (omega arith)))
 
-in_all_below : (papers : List RulePaper) (n : ℕ) → ((p : ℕ) → p < n → IsNextPaper papers p) → demand_below papers n ≤ 4500
+in_all_below : (papers : List RulePaper) (n : ℕ) → ((p : ℕ) → p < n → IsNextPaper papers p) → demand_below papers n ≤ MOST_DEMAND_IN_ALL
 in_all_below papers zero each = omega arith
 in_all_below papers (suc n) each =
-    let last : demand_below papers (n + 1) ≤ 4500 = (each n (omega arith)).in_all in
+    let last : demand_below papers (n + 1) ≤ MOST_DEMAND_IN_ALL = (each n (omega arith)).in_all in
     rw add-one at last
 
 pub papers-from_rows : (papers : List RulePaper) (n : ℕ) → n ≤ length papers → ((p : ℕ) → p < n → IsNextPaper papers p) → ArePapers (take n papers)
 papers-from_rows papers n h each =
     let len : length (take n papers) ≡ n = length-take-le n papers h in
     record {
-      few = rw len (few_below n 1500 (λ p below. (each p below).few));
+      few = rw len (few_below n MOST_PAPERS (λ p below. (each p below).few));
       ids = λ p below. let at : p < n = rw len at below in rw (paper_in-take papers n p at) (each p at).id;
       ascending = λ p below.
           let at : p + 1 < n = rw len at below in
@@ -65,11 +47,11 @@ pub rows-from_papers : (papers : List RulePaper) (n : ℕ) → n ≤ length pape
 rows-from_papers papers n h all p at =
     let len : length (take n papers) ≡ n = length-take-le n papers h in
     let within : p < length (take n papers) = rw len at in
-    let few : length (take n papers) ≤ 1500 = all.few in
+    let few : length (take n papers) ≤ MOST_PAPERS = all.few in
     let good : is_id (paper_in (take n papers) p).id ≡ true = all.ids p within in
-    let demand : (paper_in (take n papers) p).demand ≤ 100 = all.demands p within in
-    let sum : demand_below (take n papers) (length (take n papers)) ≤ 4500 = all.in_all in
-    let sum_n : demand_below papers n ≤ 4500 = rw (len, demand_below-take papers n n (omega arith)) at sum in
+    let demand : (paper_in (take n papers) p).demand ≤ MOST_DEMAND = all.demands p within in
+    let sum : demand_below (take n papers) (length (take n papers)) ≤ MOST_DEMAND_IN_ALL = all.in_all in
+    let sum_n : demand_below papers n ≤ MOST_DEMAND_IN_ALL = rw (len, demand_below-take papers n n (omega arith)) at sum in
     let less : demand_below papers (p + 1) ≤ demand_below papers n = count_below-le n (p + 1) _ (omega arith) in
     record {
       few = omega arith;
@@ -90,7 +72,7 @@ pub reviewers-from_rows : (reviewers : List RuleReviewer) (n : ℕ) → n ≤ le
 reviewers-from_rows reviewers n h each =
     let len : length (take n reviewers) ≡ n = length-take-le n reviewers h in
     record {
-      few = rw len (few_below n 1500 (λ r below. (each r below).few));
+      few = rw len (few_below n MOST_REVIEWERS (λ r below. (each r below).few));
       ids = λ r below. let at : r < n = rw len at below in rw (reviewer_in-take reviewers n r at) (each r at).id;
       ascending = λ r below.
           let at : r + 1 < n = rw len at below in
@@ -103,9 +85,9 @@ pub rows-from_reviewers : (reviewers : List RuleReviewer) (n : ℕ) → n ≤ le
 rows-from_reviewers reviewers n h all r at =
     let len : length (take n reviewers) ≡ n = length-take-le n reviewers h in
     let within : r < length (take n reviewers) = rw len at in
-    let few : length (take n reviewers) ≤ 1500 = all.few in
+    let few : length (take n reviewers) ≤ MOST_REVIEWERS = all.few in
     let good : is_id (reviewer_in (take n reviewers) r).id ≡ true = all.ids r within in
-    let loads : ((reviewer_in (take n reviewers) r).least ≤ (reviewer_in (take n reviewers) r).greatest) × ((reviewer_in (take n reviewers) r).greatest ≤ 1500) = all.loads r within in
+    let loads : ((reviewer_in (take n reviewers) r).least ≤ (reviewer_in (take n reviewers) r).greatest) × ((reviewer_in (take n reviewers) r).greatest ≤ MOST_LOAD) = all.loads r within in
     let named : (name : List ℕ) → (reviewer_in (take n reviewers) r).institution ≡ Some name → is_institution name ≡ true = λ name. all.institutions r name within in
     record {
       few = omega arith;
@@ -127,7 +109,7 @@ pub pairs-from_rows : (papers reviewers : ℕ) (pairs : List RulePair) (n : ℕ)
 pairs-from_rows papers reviewers pairs n h each =
     let len : length (take n pairs) ≡ n = length-take-le n pairs h in
     record {
-      few = rw len (few_below n 250000 (λ e below. (each e below).few));
+      few = rw len (few_below n MOST_PAIRS (λ e below. (each e below).few));
       each = λ e below. let at : e < n = rw len at below in rw (pair_in-take pairs n e at) (each e at).is_pair;
       ascending = λ e below.
           let at : e + 1 < n = rw len at below in
@@ -139,7 +121,7 @@ pub rows-from_pairs : (papers reviewers : ℕ) (pairs : List RulePair) (n : ℕ)
 rows-from_pairs papers reviewers pairs n h all e at =
     let len : length (take n pairs) ≡ n = length-take-le n pairs h in
     let within : e < length (take n pairs) = rw len at in
-    let few : length (take n pairs) ≤ 250000 = all.few in
+    let few : length (take n pairs) ≤ MOST_PAIRS = all.few in
     let here : IsPair papers reviewers (pair_in (take n pairs) e) = all.each e within in
     record {
       few = omega arith;

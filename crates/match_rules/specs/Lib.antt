@@ -13,6 +13,7 @@ pub mod Plain
 pub mod Rules
 pub mod RulesFaults
 pub mod SharesFit
+pub mod Sieves
 pub mod Sound
 pub mod Sums
 pub mod Thresholds
