@@ -12,7 +12,7 @@ use Rattle.text_lines.specs.declared.fault.LineCode.{LineCode}
 use Rattle.text_lines.specs.declared.fault.LineCode.TheVariants.{Number, Range, Id, Order}
 use Rattle.text_lines.specs.declared.fault.TextFault.{TextFault}
 use Rattle.text_lines.specs.Fields.{fields, two_of, three_or_four_of, five_of}
-use Rattle.text_lines.specs.Forms.{fixed, in_form, only_if, number_from, integer_from, counted, section_at}
+use Rattle.text_lines.specs.Forms.{fixed, in_form, only_if, number_from, integer_from, number_after, section_at}
 use Rattle.text_lines.specs.Numbers.{is_canonical, is_canonical_signed}
 use Rattle.text_lines.specs.Reading.{◌>>=◌, Cursor, due}
 
@@ -116,7 +116,7 @@ unfoldable pub head_at : Cursor → Result (ℕ × Cursor) TextFault
 head_at at = do
   kind ← due (fixed (codes "rules 1")) at
   tickets ← due (fixed (codes "tickets 10000")) kind.1
-  due (counted (codes "limit") 1 1500) tickets.1
+  due (number_after (codes "limit") 1 1500) tickets.1
 
 unfoldable pub lists_at : Cursor → Result ((List RulePaper × List RuleReviewer × List RulePair) × Cursor) TextFault
 lists_at at = do
