@@ -18,7 +18,7 @@ use Rattle.match_rules.specs.Evidence.{most_at, marks, tail_marked, head_marked,
 use Rattle.match_rules.specs.Sums.{sum_below, count_below, when, int_when}
 use Rattle.dual_check.proofs.Duality.{Values, total_by, rest_by, papers_by, groups_by, reviewers_by, parts_by, pair_by, pairs_by, bound_by, no_lottery_beats_bound_by}
 use Rattle.dual_check.proofs.Exchange.{sum_of}
-use Rattle.dual_check.proofs.Grouped.{group_of-paper}
+use Rattle.match_rules.proofs.GroupLaws.{group_of_paper}
 use Rattle.dual_check.proofs.Ints.{times_sum, times_neg, times_zero, times_more}
 use Rattle.dual_check.proofs.SumLaws.{sum_below-same, sum_below-sum, sum_below-neg, sum_below-pos}
 
@@ -120,7 +120,7 @@ rest_left rules cut e =
       | None ↦ λ same. omega (arith, ints)
       | Some g ↦ λ same. rw (same g refl) (omega (arith, ints))
     ] in
-    ends (group_of rules e) (group_of-paper rules e)
+    ends (group_of rules e) (group_of_paper rules e)
 
 rest_right : (rules : RulesValue) (cut : Cut) (e : ℕ)
     → rest_by rules (values_by OutOf rules cut) e ≡ unit (head_marked rules cut e) -ℤ unit (tail_marked rules cut e)
@@ -136,7 +136,7 @@ rest_right rules cut e =
       | None ↦ λ same. omega (arith, ints)
       | Some g ↦ λ same. rw (same g refl) (omega (arith, ints))
     ] in
-    ends (group_of rules e) (group_of-paper rules e)
+    ends (group_of rules e) (group_of_paper rules e)
 
 -- ---- all members
 

@@ -17,7 +17,7 @@ use Rattle.match_rules.specs.Sums.{sum_below, int_when, when}
 use Rattle.dual_check.proofs.Ints.{sum_times, times_sum, times_times, times_swap, times_more, times_zero, between, up_to, most_at-times}
 use Rattle.dual_check.proofs.SumLaws.{sum_below-same, sum_below-more, sum_below-sum, sum_below-zero, sum_below-times, sum_below-at}
 use Rattle.dual_check.proofs.Exchange.{sum_of, sum_of-sum, sum_of-same, exchange, all_first, all_others}
-use Rattle.dual_check.proofs.Grouped.{group_of-below}
+use Rattle.match_rules.proofs.GroupLaws.{group_of_below}
 
 -- scores of pairs, and prices of papers, groups and reviewers, of any kind
 pub record Values : Type 0 where
@@ -96,7 +96,7 @@ groups_held : (rules : RulesValue) (v : Values) (places : List ℕ) → Meets ru
 groups_held rules v places meets =
     let counted : sum_of (group_in rules v) places ≡ sum_below (group_count rules) (λ g. pos (member_count rules places g) *ℤ v.group g) =
     exchange (group_count rules) v.group (λ g e. is_in_group rules g e) (group_in rules v) places
-    (λ k d h. group_gives (group_count rules) v.group (group_of rules (get_or places k d)) (λ g e. group_of-below rules (get_or places k d) g e)) in
+    (λ k d h. group_gives (group_count rules) v.group (group_of rules (get_or places k d)) (λ g e. group_of_below rules (get_or places k d) g e)) in
     let bounded : sum_below (group_count rules) (λ g. pos (member_count rules places g) *ℤ v.group g) ≤ℤ groups_by rules v =
     sum_below-more (group_count rules) (λ g. pos (member_count rules places g) *ℤ v.group g)
     (λ g. pos rules.limit *ℤ int_max (pos 0) (v.group g))

@@ -2,7 +2,6 @@ pub mod Duality
 pub mod Exchange
 pub mod Ints
 pub mod SumLaws
-pub mod Grouped
 pub mod CutLaws
 pub mod PriceLaws
 pub mod MarkLaws

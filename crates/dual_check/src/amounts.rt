@@ -6,9 +6,14 @@ ghost use Rattle.std.specs.Prelude.{◌≡◌, ◌≤◌, ◌^◌, pos, ◌*ℤ�
 ghost use Rattle.std.specs.Int.{int_max};
 ghost use Rattle.match_rules.specs.Evidence.{most_at};
 
+use match_rules::MOST_TICKETS;
+
+/// The greatest amount of tickets or of reviewers that one place of the rules may have.
+pub(crate) const MOST_AMOUNT: u32 = MOST_TICKETS;
+
 /// The price of an amount.
-pub(crate) fn times(amount: u32, price: i128) -> i128
-    requires few { amount ≤ 10000 }
+pub(crate) fn priced(amount: u32, price: i128) -> i128
+    requires few { amount ≤ MOST_AMOUNT }
     requires above { neg_ℤ (pos (2 ^ 66)) ≤ℤ price }
     requires below { price ≤ℤ pos (2 ^ 66) }
     ensures value { result ≡ pos amount *ℤ price }
@@ -20,7 +25,7 @@ pub(crate) fn times(amount: u32, price: i128) -> i128
 
 /// The price of all tickets.
 pub(crate) fn for_all(tickets: u32, sum: i128) -> i128
-    requires few { tickets ≤ 10000 }
+    requires few { tickets ≤ MOST_TICKETS }
     requires above { neg_ℤ (pos (2 ^ 98)) ≤ℤ sum }
     requires below { sum ≤ℤ pos (2 ^ 98) }
     ensures value { result ≡ pos tickets *ℤ sum }
@@ -32,16 +37,16 @@ pub(crate) fn for_all(tickets: u32, sum: i128) -> i128
 
 /// What a price makes of an amount between two bounds, at most.
 pub(crate) fn most_of(least: u32, greatest: u32, price: i128) -> i128
-    requires least { least ≤ 10000 }
-    requires greatest { greatest ≤ 10000 }
+    requires least { least ≤ MOST_AMOUNT }
+    requires greatest { greatest ≤ MOST_AMOUNT }
     requires above { neg_ℤ (pos (2 ^ 66)) ≤ℤ price }
     requires below { price ≤ℤ pos (2 ^ 66) }
     ensures value { result ≡ most_at least greatest price }
     ensures low { neg_ℤ (pos (2 ^ 80)) ≤ℤ result }
     ensures high { result ≤ℤ pos (2 ^ 80) }
 {
-    let at_least = times(least, price);
-    let at_greatest = times(greatest, price);
+    let at_least = priced(least, price);
+    let at_greatest = priced(greatest, price);
     at_least.max(at_greatest)
 }
 

@@ -11,15 +11,16 @@ ghost use Rattle.match_rules.specs.Rules.{paper_at, reviewer_at, pair_at};
 ghost use Rattle.match_rules.specs.Sums.{when};
 ghost use Rattle.dual_check.specs.Crossing.{crosses, crosses_group};
 
+use crate::amounts::MOST_AMOUNT;
 use crate::marks::{is_crossing, is_group_crossing, is_marked};
 use crate::sums::Excess;
-use match_rules::{Cut, Rules, Side, Sieve};
+use match_rules::{Cut, MOST_PAIRS, MOST_PAPERS, MOST_REVIEWERS, MOST_TICKETS, Rules, Side, Sieve};
 
 /// An amount where a test holds, and nothing elsewhere.
-fn counted(holds: bool, amount: u32) -> u64
-    requires few { amount ≤ 10000 }
+fn amount_where(holds: bool, amount: u32) -> u64
+    requires few { amount ≤ MOST_AMOUNT }
     ensures value { result ≡ when holds amount }
-    ensures few { result ≤ 10000 }
+    ensures few { result ≤ MOST_AMOUNT }
 {
     if holds { u64::from(amount) } else { 0 }
 }
@@ -29,10 +30,10 @@ fn demand_term(rules: &Rules, cut: &Cut, paper: u32) -> u64
     requires place { paper < length rules.now.papers }
     requires fitting { CutMatches rules.now cut.now }
     ensures value { result ≡ when (marks cut.now.papers paper) (paper_at rules.now paper).demand }
-    ensures few { result ≤ 10000 }
+    ensures few { result ≤ MOST_AMOUNT }
 {
     let papers = rules.papers();
-    counted(is_marked(&cut.papers, paper), papers[paper as usize].demand)
+    amount_where(is_marked(&cut.papers, paper), papers[paper as usize].demand)
 }
 
 /// The least load of a marked reviewer.
@@ -40,10 +41,10 @@ fn least_term(rules: &Rules, cut: &Cut, reviewer: u32) -> u64
     requires place { reviewer < length rules.now.reviewers }
     requires fitting { CutMatches rules.now cut.now }
     ensures value { result ≡ when (marks cut.now.reviewers reviewer) (reviewer_at rules.now reviewer).least }
-    ensures few { result ≤ 10000 }
+    ensures few { result ≤ MOST_AMOUNT }
 {
     let reviewers = rules.reviewers();
-    counted(
+    amount_where(
         is_marked(&cut.reviewers, reviewer),
         reviewers[reviewer as usize].least,
     )
@@ -54,10 +55,10 @@ fn greatest_term(rules: &Rules, cut: &Cut, reviewer: u32) -> u64
     requires place { reviewer < length rules.now.reviewers }
     requires fitting { CutMatches rules.now cut.now }
     ensures value { result ≡ when (marks cut.now.reviewers reviewer) (reviewer_at rules.now reviewer).greatest }
-    ensures few { result ≤ 10000 }
+    ensures few { result ≤ MOST_AMOUNT }
 {
     let reviewers = rules.reviewers();
-    counted(
+    amount_where(
         is_marked(&cut.reviewers, reviewer),
         reviewers[reviewer as usize].greatest,
     )
@@ -68,9 +69,9 @@ fn group_term(rules: &Rules, cut: &Cut, way: Side, group: u32) -> u64
     requires place { group < group_count rules.now }
     requires fitting { CutMatches rules.now cut.now }
     ensures value { result ≡ when (crosses_group way rules.now cut.now group) rules.now.limit }
-    ensures few { result ≤ 10000 }
+    ensures few { result ≤ MOST_AMOUNT }
 {
-    counted(is_group_crossing(rules, cut, way, group), rules.limit())
+    amount_where(is_group_crossing(rules, cut, way, group), rules.limit())
 }
 
 /// The floor of a kept pair that goes into, or out of, the marked nodes.
@@ -78,10 +79,10 @@ fn floor_term(rules: &Rules, sieve: Sieve, cut: &Cut, way: Side, pair: u32) -> u
     requires place { pair < length rules.now.pairs }
     requires fitting { CutMatches rules.now cut.now }
     ensures value { result ≡ when (crosses way rules.now sieve cut.now pair) (pair_at rules.now pair).floor }
-    ensures few { result ≤ 10000 }
+    ensures few { result ≤ MOST_AMOUNT }
 {
     let pairs = rules.pairs();
-    counted(
+    amount_where(
         is_crossing(rules, sieve, cut, way, pair),
         pairs[pair as usize].floor,
     )
@@ -92,10 +93,10 @@ fn cap_term(rules: &Rules, sieve: Sieve, cut: &Cut, way: Side, pair: u32) -> u64
     requires place { pair < length rules.now.pairs }
     requires fitting { CutMatches rules.now cut.now }
     ensures value { result ≡ when (crosses way rules.now sieve cut.now pair) (pair_at rules.now pair).cap }
-    ensures few { result ≤ 10000 }
+    ensures few { result ≤ MOST_AMOUNT }
 {
     let pairs = rules.pairs();
-    counted(
+    amount_where(
         is_crossing(rules, sieve, cut, way, pair),
         pairs[pair as usize].cap,
     )
@@ -105,7 +106,7 @@ fn cap_term(rules: &Rules, sieve: Sieve, cut: &Cut, way: Side, pair: u32) -> u64
 fn demands(rules: &Rules, cut: &Cut) -> u64
     requires fitting { CutMatches rules.now cut.now }
     ensures value { result ≡ demand_marked rules.now cut.now }
-    ensures few { result ≤ 1500 * 100000000 }
+    ensures few { result ≤ MOST_PAPERS * (MOST_TICKETS * MOST_AMOUNT) }
 {
     let count = rules.papers().len() as u32;
     let mut sum = 0;
@@ -119,7 +120,7 @@ fn demands(rules: &Rules, cut: &Cut) -> u64
 fn least_loads(rules: &Rules, cut: &Cut) -> u64
     requires fitting { CutMatches rules.now cut.now }
     ensures value { result ≡ least_marked rules.now cut.now }
-    ensures few { result ≤ 1500 * 100000000 }
+    ensures few { result ≤ MOST_REVIEWERS * (MOST_TICKETS * MOST_AMOUNT) }
 {
     let count = rules.reviewers().len() as u32;
     let mut sum = 0;
@@ -133,7 +134,7 @@ fn least_loads(rules: &Rules, cut: &Cut) -> u64
 fn greatest_loads(rules: &Rules, cut: &Cut) -> u64
     requires fitting { CutMatches rules.now cut.now }
     ensures value { result ≡ greatest_marked rules.now cut.now }
-    ensures few { result ≤ 1500 * 100000000 }
+    ensures few { result ≤ MOST_REVIEWERS * (MOST_TICKETS * MOST_AMOUNT) }
 {
     let count = rules.reviewers().len() as u32;
     let mut sum = 0;
@@ -147,7 +148,7 @@ fn greatest_loads(rules: &Rules, cut: &Cut) -> u64
 fn limits(rules: &Rules, cut: &Cut, way: Side) -> u64
     requires fitting { CutMatches rules.now cut.now }
     ensures value { result ≡ groups_where rules.now (crosses_group way rules.now cut.now) }
-    ensures few { result ≤ 250000 * 100000000 }
+    ensures few { result ≤ MOST_PAIRS * (MOST_TICKETS * MOST_AMOUNT) }
 {
     let count = rules.group_count();
     let mut sum = 0;
@@ -161,7 +162,7 @@ fn limits(rules: &Rules, cut: &Cut, way: Side) -> u64
 fn floors(rules: &Rules, sieve: Sieve, cut: &Cut, way: Side) -> u64
     requires fitting { CutMatches rules.now cut.now }
     ensures value { result ≡ floors_where rules.now (crosses way rules.now sieve cut.now) }
-    ensures few { result ≤ 250000 * 10000 }
+    ensures few { result ≤ MOST_PAIRS * MOST_AMOUNT }
 {
     let count = rules.pairs().len() as u32;
     let mut sum = 0;
@@ -175,7 +176,7 @@ fn floors(rules: &Rules, sieve: Sieve, cut: &Cut, way: Side) -> u64
 fn caps(rules: &Rules, sieve: Sieve, cut: &Cut, way: Side) -> u64
     requires fitting { CutMatches rules.now cut.now }
     ensures value { result ≡ caps_where rules.now (crosses way rules.now sieve cut.now) }
-    ensures few { result ≤ 250000 * 10000 }
+    ensures few { result ≤ MOST_PAIRS * MOST_AMOUNT }
 {
     let count = rules.pairs().len() as u32;
     let mut sum = 0;

@@ -7,8 +7,6 @@ mod keeps;
 mod marks;
 mod prices;
 mod sums;
-#[cfg(test)]
-mod tests;
 
 pub use cuts::{excess, is_violated};
 pub use prices::{bound, is_best};

@@ -4,6 +4,7 @@ use Rattle.std.proofs.Common.{inl, inr}
 use Rattle.std.proofs.lemmas.Bool.{cases_lt}
 use Rattle.std.proofs.lemmas.List.{get_or-take, length-take-le, take_all}
 use Rattle.std.specs.declared.cmp.Ordering.TheVariants.{Less}
+use Rattle.match_rules.specs.declared.rules.TheConstants.{MOST_PAPERS, MOST_REVIEWERS, MOST_PAIRS, MOST_DEMAND, MOST_DEMAND_IN_ALL, MOST_LOAD}
 use Rattle.match_rules.specs.declared.rules.RulePaper.{RulePaper}
 use Rattle.match_rules.specs.declared.rules.RuleReviewer.{RuleReviewer}
 use Rattle.match_rules.specs.declared.rules.RulePair.{RulePair}
@@ -42,17 +43,17 @@ demand_below-take : (papers : List RulePaper) (n m : ℕ) → m ≤ n → demand
 demand_below-take papers n m h =
     count_below-same m _ _ (λ k below. ap (λ (paper : RulePaper). paper.demand) (paper_in-take papers n k (omega arith)))
 
-in_all_below : (papers : List RulePaper) (n : ℕ) → ((p : ℕ) → p < n → IsNextPaper papers p) → demand_below papers n ≤ 4500
+in_all_below : (papers : List RulePaper) (n : ℕ) → ((p : ℕ) → p < n → IsNextPaper papers p) → demand_below papers n ≤ MOST_DEMAND_IN_ALL
 in_all_below papers zero each = omega arith
 in_all_below papers (suc n) each =
-    let last : demand_below papers (n + 1) ≤ 4500 = (each n (omega arith)).in_all in
+    let last : demand_below papers (n + 1) ≤ MOST_DEMAND_IN_ALL = (each n (omega arith)).in_all in
     rw add-one at last
 
 pub papers-from_rows : (papers : List RulePaper) (n : ℕ) → n ≤ length papers → ((p : ℕ) → p < n → IsNextPaper papers p) → ArePapers (take n papers)
 papers-from_rows papers n h each =
     let len : length (take n papers) ≡ n = length-take-le n papers h in
     record {
-      few = rw len (few_below n 1500 (λ p below. (each p below).few));
+      few = rw len (few_below n MOST_PAPERS (λ p below. (each p below).few));
       ids = λ p below. let at : p < n = rw len at below in rw (paper_in-take papers n p at) (each p at).id;
       ascending = λ p below.
           let at : p + 1 < n = rw len at below in
@@ -65,11 +66,11 @@ pub rows-from_papers : (papers : List RulePaper) (n : ℕ) → n ≤ length pape
 rows-from_papers papers n h all p at =
     let len : length (take n papers) ≡ n = length-take-le n papers h in
     let within : p < length (take n papers) = rw len at in
-    let few : length (take n papers) ≤ 1500 = all.few in
+    let few : length (take n papers) ≤ MOST_PAPERS = all.few in
     let good : is_id (paper_in (take n papers) p).id ≡ true = all.ids p within in
-    let demand : (paper_in (take n papers) p).demand ≤ 100 = all.demands p within in
-    let sum : demand_below (take n papers) (length (take n papers)) ≤ 4500 = all.in_all in
-    let sum_n : demand_below papers n ≤ 4500 = rw (len, demand_below-take papers n n (omega arith)) at sum in
+    let demand : (paper_in (take n papers) p).demand ≤ MOST_DEMAND = all.demands p within in
+    let sum : demand_below (take n papers) (length (take n papers)) ≤ MOST_DEMAND_IN_ALL = all.in_all in
+    let sum_n : demand_below papers n ≤ MOST_DEMAND_IN_ALL = rw (len, demand_below-take papers n n (omega arith)) at sum in
     let less : demand_below papers (p + 1) ≤ demand_below papers n = count_below-le n (p + 1) _ (omega arith) in
     record {
       few = omega arith;
@@ -90,7 +91,7 @@ pub reviewers-from_rows : (reviewers : List RuleReviewer) (n : ℕ) → n ≤ le
 reviewers-from_rows reviewers n h each =
     let len : length (take n reviewers) ≡ n = length-take-le n reviewers h in
     record {
-      few = rw len (few_below n 1500 (λ r below. (each r below).few));
+      few = rw len (few_below n MOST_REVIEWERS (λ r below. (each r below).few));
       ids = λ r below. let at : r < n = rw len at below in rw (reviewer_in-take reviewers n r at) (each r at).id;
       ascending = λ r below.
           let at : r + 1 < n = rw len at below in
@@ -103,9 +104,9 @@ pub rows-from_reviewers : (reviewers : List RuleReviewer) (n : ℕ) → n ≤ le
 rows-from_reviewers reviewers n h all r at =
     let len : length (take n reviewers) ≡ n = length-take-le n reviewers h in
     let within : r < length (take n reviewers) = rw len at in
-    let few : length (take n reviewers) ≤ 1500 = all.few in
+    let few : length (take n reviewers) ≤ MOST_REVIEWERS = all.few in
     let good : is_id (reviewer_in (take n reviewers) r).id ≡ true = all.ids r within in
-    let loads : ((reviewer_in (take n reviewers) r).least ≤ (reviewer_in (take n reviewers) r).greatest) × ((reviewer_in (take n reviewers) r).greatest ≤ 1500) = all.loads r within in
+    let loads : ((reviewer_in (take n reviewers) r).least ≤ (reviewer_in (take n reviewers) r).greatest) × ((reviewer_in (take n reviewers) r).greatest ≤ MOST_LOAD) = all.loads r within in
     let named : (name : List ℕ) → (reviewer_in (take n reviewers) r).institution ≡ Some name → is_institution name ≡ true = λ name. all.institutions r name within in
     record {
       few = omega arith;
@@ -127,7 +128,7 @@ pub pairs-from_rows : (papers reviewers : ℕ) (pairs : List RulePair) (n : ℕ)
 pairs-from_rows papers reviewers pairs n h each =
     let len : length (take n pairs) ≡ n = length-take-le n pairs h in
     record {
-      few = rw len (few_below n 250000 (λ e below. (each e below).few));
+      few = rw len (few_below n MOST_PAIRS (λ e below. (each e below).few));
       each = λ e below. let at : e < n = rw len at below in rw (pair_in-take pairs n e at) (each e at).is_pair;
       ascending = λ e below.
           let at : e + 1 < n = rw len at below in
@@ -139,7 +140,7 @@ pub rows-from_pairs : (papers reviewers : ℕ) (pairs : List RulePair) (n : ℕ)
 rows-from_pairs papers reviewers pairs n h all e at =
     let len : length (take n pairs) ≡ n = length-take-le n pairs h in
     let within : e < length (take n pairs) = rw len at in
-    let few : length (take n pairs) ≤ 250000 = all.few in
+    let few : length (take n pairs) ≤ MOST_PAIRS = all.few in
     let here : IsPair papers reviewers (pair_in (take n pairs) e) = all.each e within in
     record {
       few = omega arith;

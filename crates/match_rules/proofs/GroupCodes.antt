@@ -10,6 +10,7 @@ use Rattle.std.proofs.lemmas.Cmp.{nat_list_cmp_total, tied_itself}
 use Rattle.std.proofs.lemmas.List.{get_or-map, length-map}
 use Rattle.std.proofs.lemmas.Map.Keys.{Less-from_sorted, below_from_sorted, sorted_from_strictly_increasing}
 use Rattle.std.proofs.lemmas.Option.{same_Some}
+use Rattle.match_rules.specs.declared.rules.TheConstants.{MOST_REVIEWERS}
 use Rattle.match_rules.specs.declared.rules.RulePair.{RulePair}
 use Rattle.match_rules.specs.declared.rules.RuleReviewer.{RuleReviewer}
 use Rattle.match_rules.specs.Rules.{RulesValue, pair_in, pair_at, reviewer_at, id_cmp, no_pair}
@@ -28,7 +29,7 @@ place_is_name names name place s (within, at) =
 
 -- the number of a key
 abbrev number_of : List (List ℕ) → GroupKey → ℕ
-number_of names key = key.paper * 1500 + place_of_name names key.institution
+number_of names key = key.paper * MOST_REVIEWERS + place_of_name names key.institution
 
 lower_place : (names : List (List ℕ)) (a b : List ℕ) (i j : ℕ) → IsStrictlySortedBy id_cmp names → IsPlaceOf names a i → IsPlaceOf names b j → id_cmp a b ≡ Less → i < j
 lower_place names a b i j s (i_within, i_at) (j_within, j_at) less =
@@ -63,16 +64,16 @@ less_cases x y s e = elim (cases_order x y) as (λ _. (x < y) ⊎ ((x ≡ y) × 
 ]
 
 -- the numbers of keys are in the order of the keys
-lower_number : (names : List (List ℕ)) (a b : GroupKey) → length names ≤ 1500 → IsStrictlySortedBy id_cmp names
+lower_number : (names : List (List ℕ)) (a b : GroupKey) → length names ≤ MOST_REVIEWERS → IsStrictlySortedBy id_cmp names
     → HasName names a.institution → HasName names b.institution → key_cmp a b ≡ Less → number_of names a < number_of names b
 lower_number names a b few s (i, i_at) (j, j_at) less =
     rw (place_is_name names a.institution i s i_at, place_is_name names b.institution j s j_at)
-    (elim (less_cases a.paper b.paper (id_cmp a.institution b.institution) less) as (λ _. a.paper * 1500 + i < b.paper * 1500 + j) [
+    (elim (less_cases a.paper b.paper (id_cmp a.institution b.institution) less) as (λ _. a.paper * MOST_REVIEWERS + i < b.paper * MOST_REVIEWERS + j) [
       | inl lower ↦ omega (arith, i_at.0)
       | inr same ↦ let before = lower_place names a.institution b.institution i j s i_at j_at same.1 in omega (arith, same.0)
     ])
 
-numbers_above : (names : List (List ℕ)) (key : GroupKey) (keys : List GroupKey) → length names ≤ 1500 → IsStrictlySortedBy id_cmp names
+numbers_above : (names : List (List ℕ)) (key : GroupKey) (keys : List GroupKey) → length names ≤ MOST_REVIEWERS → IsStrictlySortedBy id_cmp names
     → HasName names key.institution → ((k : GroupKey) → IsIn k keys → HasName names k.institution)
     → AllByRecursion (λ k. key_cmp key k ≡ Less) keys → AllByRecursion (λ n. nat_cmp (number_of names key) n ≡ Less) (map (number_of names) keys)
 numbers_above names key [] few s has named all = tt
@@ -83,7 +84,7 @@ numbers_above names key (first ∷ keys) few s has named all =
     less_from_lt : (x y : ℕ) → x < y → nat_cmp x y ≡ Less
     less_from_lt x y h = grind (arith, nat_tests)
 
-numbers_ascend : (names : List (List ℕ)) (keys : List GroupKey) → length names ≤ 1500 → IsStrictlySortedBy id_cmp names
+numbers_ascend : (names : List (List ℕ)) (keys : List GroupKey) → length names ≤ MOST_REVIEWERS → IsStrictlySortedBy id_cmp names
     → ((k : GroupKey) → IsIn k keys → HasName names k.institution) → IsStrictlySortedBy key_cmp keys → IsStrictlySortedBy nat_cmp (map (number_of names) keys)
 unfolding IsStrictlySortedBy
 numbers_ascend names [] few s named up = tt
@@ -121,7 +122,7 @@ number_of_key rules names ranks e key s is k =
       named = (found.0, found.2);
       number =
           rw (found.1)
-          (ap (λ n. Some n) (ap (λ p. p * 1500 + found.0) (sym parts.paper) ∙ ap (λ k. key.paper * 1500 + k) (sym (place_is_name names key.institution found.0 s found.2))));
+          (ap (λ n. Some n) (ap (λ p. p * MOST_REVIEWERS + found.0) (sym parts.paper) ∙ ap (λ k. key.paper * MOST_REVIEWERS + k) (sym (place_is_name names key.institution found.0 s found.2))));
     }
 
 number_of_none : (rules : RulesValue) (names : List (List ℕ)) (ranks : List (Option ℕ)) (e : ℕ)

@@ -12,6 +12,7 @@ use Rattle.match_rules.specs.declared.answer.Prices.{Prices}
 use Rattle.match_rules.specs.declared.answer.Sieve.TheVariants.{All as EveryPair, Above}
 use Rattle.match_rules.specs.declared.answer.Winning.{Winning}
 use Rattle.match_rules.specs.declared.lottery.Piece.{Piece}
+use Rattle.match_rules.specs.declared.answer.TheConstants.{MOST_PRICE, MOST_TOTAL}
 use Rattle.match_rules.specs.declared.rules.TheConstants.{MOST_TICKETS}
 use Rattle.match_rules.specs.Rules.{RulesValue, most_score, pair_at}
 use Rattle.match_rules.specs.Groups.{group_count, is_in_group}
@@ -26,10 +27,10 @@ abbrev pub IsWithin : ℕ → ℤ → Type 0
 IsWithin limit z = (neg_ℤ (pos limit) ≤ℤ z) × (z ≤ℤ pos limit)
 
 abbrev pub most_price : ℕ
-most_price = 10000000000000000
+most_price = MOST_PRICE
 
 abbrev pub most_total : ℕ
-most_total = 1000000000000000000
+most_total = MOST_TOTAL
 
 -- one price, within its limit, for each of a count
 abbrev pub ArePrices : ℕ → List ℤ → Type 0

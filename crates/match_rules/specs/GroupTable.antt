@@ -4,6 +4,7 @@ use Rattle.std.specs.Prelude.{◌≡◌, ℕ, ◌+◌, ◌*◌, ◌<◌, ◌≤�
 use denote.Ref.{Bor}
 use Rattle.std.specs.Option.{option_map}
 use Rattle.std.specs.List.Sorted.{IsStrictlySortedBy}
+use Rattle.match_rules.specs.declared.rules.TheConstants.{MOST_REVIEWERS}
 use Rattle.match_rules.specs.declared.rules.RulePair.{RulePair}
 use Rattle.match_rules.specs.declared.rules.RuleReviewer.{RuleReviewer}
 use Rattle.match_rules.specs.Rules.{RulesValue, reviewer_in, id_cmp}
@@ -34,18 +35,18 @@ AreNamed names reviewers = (r : ℕ) (name : List ℕ) → r < length reviewers 
 
 -- each reviewer has the place of their institution among names that ascend
 pub record AreRanks (names : List (List ℕ)) (reviewers : List RuleReviewer) (ranks : List (Option ℕ)) : Type 0 where
-  pub few : length names ≤ 1500
+  pub few : length names ≤ MOST_REVIEWERS
   pub ascending : IsStrictlySortedBy id_cmp names
   pub as_long : length ranks ≡ length reviewers
   pub each : (r : ℕ) → r < length reviewers → IsRank names (reviewer_in reviewers r).institution (slice_index_or ranks r None)
 
--- each place is below 1,500
+-- each place is one of a reviewer
 abbrev pub AreSmall : List (Option ℕ) → Type 0
-AreSmall ranks = (r rank : ℕ) → slice_index_or ranks r None ≡ Some rank → rank < 1500
+AreSmall ranks = (r rank : ℕ) → slice_index_or ranks r None ≡ Some rank → rank < MOST_REVIEWERS
 
 -- one number for the paper and the place of the institution
 abbrev pub code_of : List (Option ℕ) → RulePair → Option ℕ
-code_of ranks pair = option_map (λ rank. pair.paper * 1500 + rank) (slice_index_or ranks pair.reviewer None)
+code_of ranks pair = option_map (λ rank. pair.paper * MOST_REVIEWERS + rank) (slice_index_or ranks pair.reviewer None)
 
 -- the place of the number, where there is one
 abbrev pub IsCodePlace : List ℕ → Option ℕ → Option ℕ → Type 0

@@ -3,6 +3,7 @@ use Rattle.std.specs.Prelude.{ℕ, List, length, Bool, ◌&&◌, ◌||◌, ◌==
 use Rattle.std.specs.List.{list_all}
 use Rattle.std.specs.Char.{is_whitespace}
 use Rattle.std.specs.Str.{chars, is_utf8}
+use Rattle.match_rules.specs.declared.ids.TheConstants.{MOST_ID_BYTES}
 
 -- U+0000 to U+001F and U+007F to U+009F
 abbrev pub is_control : ℕ → Bool
@@ -16,9 +17,13 @@ is_id_char c = not (is_whitespace c || (is_control c || (c == 44 || c == 34)))
 abbrev pub is_institution_char : ℕ → Bool
 is_institution_char c = is_id_char c && not (c == 59)
 
--- 1 to 128 bytes of UTF-8, each character passing the test
+-- 1 to 128 bytes
+abbrev pub has_id_length : List ℕ → Bool
+has_id_length bytes = nat_le 1 (length bytes) && nat_le (length bytes) MOST_ID_BYTES
+
+-- of UTF-8, each character passing the test
 abbrev pub is_name : (ℕ → Bool) → List ℕ → Bool
-is_name test bytes = (nat_le 1 (length bytes) && nat_le (length bytes) 128) && (is_utf8 bytes && list_all test (chars bytes))
+is_name test bytes = has_id_length bytes && (is_utf8 bytes && list_all test (chars bytes))
 
 -- the id of a paper or a reviewer
 unfoldable pub is_id : List ℕ → Bool

@@ -7,7 +7,7 @@ use Rattle.std.specs.declared.cmp.Ordering.TheVariants.{Less}
 use Rattle.match_rules.specs.declared.rules.RulePaper.{RulePaper}
 use Rattle.match_rules.specs.declared.rules.RuleReviewer.{RuleReviewer}
 use Rattle.match_rules.specs.declared.rules.RulePair.{RulePair}
-use Rattle.match_rules.specs.declared.rules.TheConstants.{MOST_TICKETS}
+use Rattle.match_rules.specs.declared.rules.TheConstants.{MOST_TICKETS, MOST_PAPERS, MOST_REVIEWERS, MOST_PAIRS, MOST_DEMAND, MOST_DEMAND_IN_ALL, MOST_LOAD, MOST_LIMIT, MOST_SCORE}
 use Rattle.match_rules.specs.Id.{is_id, is_institution}
 use Rattle.match_rules.specs.Sums.{count_below}
 
@@ -61,28 +61,28 @@ demand_total papers = count_below (length papers) (λ p. (paper_in papers p).dem
 
 -- 1 to 1,500 reviewers of an institution for a paper
 abbrev pub IsLimit : ℕ → Type 0
-IsLimit limit = (1 ≤ limit) × (limit ≤ 1500)
+IsLimit limit = (1 ≤ limit) × (limit ≤ MOST_LIMIT)
 
 -- at most 1,500 papers with ids that strictly ascend, each of demand at most 100, and 4,500 in all
 pub record ArePapers (papers : List RulePaper) : Type 0 where
-  pub few : length papers ≤ 1500
+  pub few : length papers ≤ MOST_PAPERS
   pub ids : (p : ℕ) → p < length papers → is_id (paper_in papers p).id ≡ true
   pub ascending : (p : ℕ) → p + 1 < length papers → id_cmp (paper_in papers p).id (paper_in papers (p + 1)).id ≡ Less
-  pub demands : (p : ℕ) → p < length papers → (paper_in papers p).demand ≤ 100
-  pub in_all : demand_total papers ≤ 4500
+  pub demands : (p : ℕ) → p < length papers → (paper_in papers p).demand ≤ MOST_DEMAND
+  pub in_all : demand_total papers ≤ MOST_DEMAND_IN_ALL
 
 -- at most 1,500 reviewers with ids that strictly ascend, each with the name of an institution or none, and with a least
 -- load of at most the greatest, which is at most 1,500
 pub record AreReviewers (reviewers : List RuleReviewer) : Type 0 where
-  pub few : length reviewers ≤ 1500
+  pub few : length reviewers ≤ MOST_REVIEWERS
   pub ids : (r : ℕ) → r < length reviewers → is_id (reviewer_in reviewers r).id ≡ true
   pub ascending : (r : ℕ) → r + 1 < length reviewers → id_cmp (reviewer_in reviewers r).id (reviewer_in reviewers (r + 1)).id ≡ Less
-  pub loads : (r : ℕ) → r < length reviewers → ((reviewer_in reviewers r).least ≤ (reviewer_in reviewers r).greatest) × ((reviewer_in reviewers r).greatest ≤ 1500)
+  pub loads : (r : ℕ) → r < length reviewers → ((reviewer_in reviewers r).least ≤ (reviewer_in reviewers r).greatest) × ((reviewer_in reviewers r).greatest ≤ MOST_LOAD)
   pub institutions : (r : ℕ) (name : List ℕ) → r < length reviewers → (reviewer_in reviewers r).institution ≡ Some name → is_institution name ≡ true
 
 -- the greatest magnitude of a score
 abbrev pub most_score : ℕ
-most_score = 8000000000
+most_score = MOST_SCORE
 
 -- a pair of known places, with a score within its limits and tickets from its floor, which is none or all, to its cap
 pub record IsPair (papers reviewers : ℕ) (pair : RulePair) : Type 0 where
@@ -96,7 +96,7 @@ pub record IsPair (papers reviewers : ℕ) (pair : RulePair) : Type 0 where
 
 -- at most 250,000 pairs that strictly ascend
 pub record ArePairs (papers reviewers : ℕ) (pairs : List RulePair) : Type 0 where
-  pub few : length pairs ≤ 250000
+  pub few : length pairs ≤ MOST_PAIRS
   pub each : (e : ℕ) → e < length pairs → IsPair papers reviewers (pair_in pairs e)
   pub ascending : (e : ℕ) → e + 1 < length pairs → IsPairBefore (pair_in pairs e) (pair_in pairs (e + 1))
 

@@ -1,9 +1,10 @@
--- Lotteries that break no clause of the check, and the sizes of the counters that the check needs.
+-- Lotteries that break no clause of the check, and what the check counts.
 use Rattle.std.specs.Prelude.{◌≡◌, ℕ, ◌<◌, ◌≤◌, ◌==◌, nat_le, List, length, Option, All, slice_index}
 use Rattle.match_rules.specs.declared.answer.Sieve.TheVariants.{All as EveryPair}
 use Rattle.match_rules.specs.declared.breaks.Break.{Break}
 use Rattle.match_rules.specs.declared.breaks.Break.TheVariants.{Share, Cap}
 use Rattle.match_rules.specs.declared.lottery.Piece.{Piece}
+use Rattle.match_rules.specs.declared.sizes.Sizes.{Sizes}
 use Rattle.match_rules.specs.Rules.{RulesValue, pair_at}
 use Rattle.match_rules.specs.Breaks.{unless}
 use Rattle.match_rules.specs.Groups.{group_count}
@@ -16,16 +17,9 @@ pub record IsSound (rules : RulesValue) (shares : List ℕ) (lottery : List Piec
   pub whole : tickets lottery ≡ rules.tickets
   pub exact : (e : ℕ) → e < length rules.pairs → times lottery e ≡ slice_index shares e
 
--- how many counters there are of each kind
-pub record ScratchSizes : Type 0 where
-  pub papers : ℕ
-  pub reviewers : ℕ
-  pub groups : ℕ
-  pub pairs : ℕ
-
--- a counter for each paper, reviewer, group and pair of the rules
-unfoldable pub sizes_of : RulesValue → ScratchSizes
-sizes_of rules = record { papers = length rules.papers; reviewers = length rules.reviewers; groups = group_count rules; pairs = length rules.pairs }
+-- how many papers, groups, reviewers and pairs rules have
+abbrev pub sizes_of : RulesValue → Sizes
+sizes_of rules = record { papers = length rules.papers; groups = group_count rules; reviewers = length rules.reviewers; pairs = length rules.pairs }
 
 -- places of pairs of the rules, ascending
 pub record ArePlaces (rules : RulesValue) (places : List ℕ) : Type 0 where

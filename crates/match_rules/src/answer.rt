@@ -6,6 +6,12 @@ use crate::lists::{Places, PriceList, Shares};
 use crate::lottery::Lottery;
 use std::alloc::{AllocError, Global};
 
+/// The greatest magnitude of a price, in 10^-6 of a score.
+pub const MOST_PRICE: u64 = 10_000_000_000_000_000;
+
+/// The greatest magnitude of a total, in 10^-6 of a score over all tickets.
+pub const MOST_TOTAL: u64 = 1_000_000_000_000_000_000;
+
 /// What was asked for.
 #[derive(Debug, Clone, Copy, PartialEq, Eq)]
 pub enum Mode {
@@ -41,8 +47,7 @@ pub enum Sieve {
     },
 }
 
-/// Marked papers, groups and reviewers: evidence that nothing fits, where
-/// more has to pass than may pass.
+/// Marked papers, groups and reviewers: evidence that nothing fits, where more has to pass than may pass.
 #[derive(Drop)]
 pub struct Cut {
     /// Which way is counted.

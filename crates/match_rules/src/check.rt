@@ -14,12 +14,12 @@ use crate::breaks::Break;
 use crate::group_check::broken_group;
 use crate::lists::Shares;
 use crate::lottery::{Lottery, Piece};
-use crate::rules::Rules;
+use crate::rules::{MOST_PAIRS, MOST_TICKETS, Rules};
+use crate::sizes::Sizes;
 use std::alloc::{AllocError, Global};
 use std::marker::Model;
 
-/// Counters for `first_break`: made once for rules, they serve any number of
-/// lotteries for these rules.
+/// Counters for `first_break`: made once for rules, they serve any number of lotteries for these rules.
 #[derive(Drop)]
 pub struct Scratch {
     papers: Vec<u32>,
@@ -30,11 +30,11 @@ pub struct Scratch {
 
 impl Model for Scratch {
     ghost use Rattle.std.specs.Prelude.{length};
-    ghost use Rattle.match_rules.specs.Sound.{ScratchSizes};
+    ghost use Rattle.match_rules.specs.declared.sizes.Sizes.{Sizes};
 
-    ghost Value = { ScratchSizes };
+    ghost Value = { Sizes };
 
-    ghost view = { λ s. record { papers = length s.papers.items; reviewers = length s.reviewers.items; groups = length s.groups.items; pairs = length s.pairs.items } };
+    ghost view = { λ s. record { papers = length s.papers.items; groups = length s.groups.items; reviewers = length s.reviewers.items; pairs = length s.pairs.items } };
 }
 
 impl Scratch {
@@ -42,10 +42,11 @@ impl Scratch {
     pub fn new(alloc: Global, rules: &Rules) -> Result<Scratch, AllocError>
         ensures { IfOk result (λ scratch. scratch ≡ sizes_of rules.now) }
     {
-        let papers = vec![in alloc; 0; rules.papers().len()]?;
-        let reviewers = vec![in alloc; 0; rules.reviewers().len()]?;
-        let groups = vec![in alloc; 0; rules.group_count() as usize]?;
-        let pairs = vec![in alloc; 0; rules.pairs().len()]?;
+        let sizes = Sizes::of(rules);
+        let papers = vec![in alloc; 0; sizes.papers as usize]?;
+        let reviewers = vec![in alloc; 0; sizes.reviewers as usize]?;
+        let groups = vec![in alloc; 0; sizes.groups as usize]?;
+        let pairs = vec![in alloc; 0; sizes.pairs as usize]?;
         Ok(Scratch {
             papers,
             reviewers,
@@ -247,8 +248,8 @@ fn broken_piece(
 // Adds a weight for each of the places.
 fn add_weight(places: &[u32], weight: u32, counts: &mut [u64])
     requires places { All (λ e. e < length counts.old) places.now }
-    requires few { length places.now ≤ 250000 }
-    requires weight { weight ≤ 10000 }
+    requires few { length places.now ≤ MOST_PAIRS }
+    requires weight { weight ≤ MOST_TICKETS }
     requires fits { (e : ℕ) → e < length counts.old → slice_index counts.old e ≤ 2 ^ 62 }
     ensures { AreCounts counts.new (length counts.old) (λ e. slice_index counts.old e + weight * holds places.now e) }
 {
@@ -274,7 +275,7 @@ fn count_times(rules: &Rules, pieces: &[Piece], counts: &mut [u64])
 // Clause 6, over counted weights.
 fn broken_share(shares: &[u32], counts: &[u64]) -> Option<Break>
     requires size { length shares.now ≡ length counts.now }
-    requires few { length counts.now ≤ 250000 }
+    requires few { length counts.now ≤ MOST_PAIRS }
     ensures { result ≡ first_below (length counts.now) (share_counted shares.now counts.now) }
 {
     for (e, share) in shares.iter().enumerate() {
@@ -321,11 +322,9 @@ fn broken_pair(rules: &Rules, shares: &[u32], pieces: &[Piece], counts: &mut [u6
     broken_cap(rules, counts)
 }
 
-/// The first broken clause of the check of a lottery, of the clauses 1 to 7,
-/// and in it the least piece and then the least place; None exactly where the
-/// lottery fits, has all tickets and gives each pair its share. Each piece
-/// takes time in proportion to its places, the papers and the reviewers, and a
-/// search for each of its locked pairs.
+/// The first broken clause of the check of a lottery, of the clauses 1 to 7, and in it the least piece and then the
+/// least place; None exactly where the lottery fits, has all tickets and gives each pair its share. Each piece takes
+/// time in proportion to its places, the papers and the reviewers, and a search for each of its locked pairs.
 pub fn first_break(
     rules: &Rules,
     shares: &Shares,

@@ -1,5 +1,4 @@
-// Worked examples, computed over the definitions. Each function has an empty
-// body: its clauses are the examples.
+// Worked examples, computed over the definitions. Each function has an empty body: its clauses are the examples.
 
 ghost use Rattle.std.specs.Prelude.{◌≡◌, ◌++◌, [], ◌∷◌, true, false, None, Some, pos, neg_ℤ, replicate, codes};
 ghost use Rattle.match_rules.specs.declared.answer.Sieve.TheVariants.{All as EveryPair, AtLeast, Above};

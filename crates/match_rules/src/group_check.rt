@@ -1,5 +1,5 @@
-// The clause of the check on groups. The groups of a piece are counted, and
-// then only these counters are cleared, since there may be many groups.
+// The clause of the check on groups. The groups of a piece are counted, and then only these counters are cleared, since
+// there may be many groups.
 
 ghost use Rattle.std.specs.Prelude.{◌≡◌, ℕ, ◌+◌, ◌-◌, ◌<◌, ◌≤◌, ◌⊎◌, if◌then◌else◌, true, length, slice_index, Some};
 ghost use Rattle.match_rules.specs.Answers.{LotteryMatches};

@@ -1,5 +1,4 @@
-// The groups of rules, counted once: the group of each pair, and the first
-// pair of each group.
+// The groups of rules, counted once: the group of each pair, and the first pair of each group.
 
 ghost use Rattle.std.specs.Prelude.{◌≡◌, ◌↔◌, ℕ, ◌+◌, ◌<◌, ◌≤◌, List, length, map, slice_index, slice_index_or, IfOk, Option, None, Some};
 ghost use Rattle.std.specs.List.{Contains, filter_map};
@@ -7,7 +6,7 @@ ghost use Rattle.std.specs.List.Sorted.{IsStrictlySortedBy, IsStrictlyIncreasing
 ghost use Rattle.match_rules.specs.GroupTable.{texts, IsPlaceOf, HasName, IsRank, AreNamed, AreRanks, AreSmall, code_of, IsCodePlace, AreCodePlaces, IsFirstPair, IsCounted, IsGroupTable};
 ghost use Rattle.match_rules.specs.Rules.{RulesValue, id_cmp, pair_in};
 
-use crate::rules::{RulePair, RuleReviewer};
+use crate::rules::{MOST_PAIRS, MOST_PAPERS, MOST_REVIEWERS, RulePair, RuleReviewer};
 use std::alloc::{AllocError, Global};
 
 // The names of all institutions of the reviewers, one for each reviewer.
@@ -37,7 +36,7 @@ fn distinct_names<'a>(mut names: Vec<&'a str>) -> Vec<&'a str>
 
 // The place of a name among names that ascend.
 fn place_of(names: &[&str], name: &str) -> u32
-    requires few { length names.now ≤ 1500 }
+    requires few { length names.now ≤ MOST_REVIEWERS }
     requires ascending { IsStrictlySortedBy id_cmp (texts names.now) }
     requires there { HasName (texts names.now) name.now }
     ensures { IsPlaceOf (texts names.now) name.now result }
@@ -50,7 +49,7 @@ fn place_of(names: &[&str], name: &str) -> u32
 
 // The place of a reviewer's institution.
 fn rank_of(names: &[&str], reviewer: &RuleReviewer) -> Option<u32>
-    requires few { length names.now ≤ 1500 }
+    requires few { length names.now ≤ MOST_REVIEWERS }
     requires ascending { IsStrictlySortedBy id_cmp (texts names.now) }
     requires there { (name : List ℕ) → reviewer.now.institution ≡ Some name → HasName (texts names.now) name }
     ensures { IsRank (texts names.now) reviewer.now.institution result }
@@ -67,7 +66,7 @@ fn ranks_among(
     names: &[&str],
     reviewers: &[RuleReviewer],
 ) -> Result<Vec<Option<u32>>, AllocError>
-    requires few { length names.now ≤ 1500 }
+    requires few { length names.now ≤ MOST_REVIEWERS }
     requires ascending { IsStrictlySortedBy id_cmp (texts names.now) }
     requires there { AreNamed (texts names.now) reviewers.now }
     ensures { IfOk result (λ ranks. AreRanks (texts names.now) reviewers.now ranks.items) }
@@ -81,7 +80,7 @@ fn ranks_among(
 
 // The place of each reviewer's institution among all of theirs.
 fn ranks(alloc: Global, reviewers: &[RuleReviewer]) -> Result<Vec<Option<u32>>, AllocError>
-    requires { length reviewers.now ≤ 1500 }
+    requires { length reviewers.now ≤ MOST_REVIEWERS }
     ensures { IfOk result (λ ranks. (names : List (List ℕ)) × AreRanks names reviewers.now ranks.items) }
 {
     let names = distinct_names(all_names(alloc, reviewers)?);
@@ -90,13 +89,13 @@ fn ranks(alloc: Global, reviewers: &[RuleReviewer]) -> Result<Vec<Option<u32>>, 
 
 // One number for the paper of a pair and the institution of its reviewer.
 fn code(ranks: &[Option<u32>], pair: &RulePair) -> Option<u32>
-    requires paper { pair.now.paper < 1500 }
+    requires paper { pair.now.paper < MOST_PAPERS }
     requires reviewer { pair.now.reviewer < length ranks.now }
     requires ranks { AreSmall ranks.now }
     ensures { result ≡ code_of ranks.now pair.now }
 {
     match ranks[pair.reviewer as usize] {
-        Some(rank) => Some(pair.paper * 1500 + rank),
+        Some(rank) => Some(pair.paper * MOST_REVIEWERS + rank),
         None => None,
     }
 }
@@ -107,7 +106,7 @@ fn codes(
     ranks: &[Option<u32>],
     pairs: &[RulePair],
 ) -> Result<Vec<Option<u32>>, AllocError>
-    requires pairs { (e : ℕ) → e < length pairs.now → ((pair_in pairs.now e).paper < 1500) × ((pair_in pairs.now e).reviewer < length ranks.now) }
+    requires pairs { (e : ℕ) → e < length pairs.now → ((pair_in pairs.now e).paper < MOST_PAPERS) × ((pair_in pairs.now e).reviewer < length ranks.now) }
     requires ranks { AreSmall ranks.now }
     ensures { IfOk result (λ codes. codes.items ≡ map (code_of ranks.now) pairs.now) }
 {
@@ -150,7 +149,7 @@ fn numbers_of(alloc: Global, codes: &[Option<u32>]) -> Result<Vec<u32>, AllocErr
 
 // The place of a number among numbers that ascend.
 fn place_among(numbers: &[u32], number: u32) -> u32
-    requires few { length numbers.now ≤ 250000 }
+    requires few { length numbers.now ≤ MOST_PAIRS }
     requires ascending { IsStrictlyIncreasing numbers.now }
     requires there { Contains numbers.now number }
     ensures { IsCodePlace numbers.now (Some number) (Some result) }
@@ -163,7 +162,7 @@ fn place_among(numbers: &[u32], number: u32) -> u32
 
 // The place of a pair's number, where it has one.
 fn code_place(numbers: &[u32], code: Option<u32>) -> Option<u32>
-    requires few { length numbers.now ≤ 250000 }
+    requires few { length numbers.now ≤ MOST_PAIRS }
     requires ascending { IsStrictlyIncreasing numbers.now }
     requires there { (x : ℕ) → code ≡ Some x → Contains numbers.now x }
     ensures { IsCodePlace numbers.now code result }
@@ -180,7 +179,7 @@ fn code_places(
     numbers: &[u32],
     codes: &[Option<u32>],
 ) -> Result<Vec<Option<u32>>, AllocError>
-    requires few { length numbers.now ≤ 250000 }
+    requires few { length numbers.now ≤ MOST_PAIRS }
     requires ascending { IsStrictlyIncreasing numbers.now }
     requires there { (x : ℕ) → Contains codes.now (Some x) → Contains numbers.now x }
     ensures { IfOk result (λ places. AreCodePlaces numbers.now codes.now places.items) }
@@ -194,7 +193,7 @@ fn code_places(
 
 // The first pair of each group.
 fn first_pairs(alloc: Global, groups: &[Option<u32>], count: usize) -> Result<Vec<u32>, AllocError>
-    requires few { length groups.now ≤ 250000 }
+    requires few { length groups.now ≤ MOST_PAIRS }
     requires within { (e g : ℕ) → slice_index_or groups.now e None ≡ Some g → g < count }
     ensures as_long { IfOk result (λ firsts. length firsts.items ≡ count) }
     ensures first { IfOk result (λ firsts. (e g : ℕ) → e < length groups.now → slice_index_or groups.now e None ≡ Some g → IsFirstPair groups.now g (slice_index firsts.items g)) }
@@ -213,13 +212,11 @@ fn first_pairs(alloc: Global, groups: &[Option<u32>], count: usize) -> Result<Ve
 pub struct Group {
     /// The place of the paper.
     pub paper: u32,
-    /// The place of the first reviewer of the institution who has a pair with
-    /// the paper.
+    /// The place of the first reviewer of the institution who has a pair with the paper.
     pub reviewer: u32,
 }
 
-/// The groups of rules: the group of each pair, and the first pair of each
-/// group.
+/// The groups of rules: the group of each pair, and the first pair of each group.
 #[derive(Drop)]
 pub(crate) struct GroupTable {
     pub(crate) of_pair: Vec<Option<u32>>,
@@ -237,11 +234,10 @@ impl GroupTable {
     }
 }
 
-// The group of each pair and the first pair of each group, by the numbers of
-// the pairs and these numbers in order.
+// The group of each pair and the first pair of each group, by the numbers of the pairs and these numbers in order.
 fn table_of(alloc: Global, codes: &[Option<u32>], numbers: &[u32]) -> Result<GroupTable, AllocError>
-    requires few_pairs { length codes.now ≤ 250000 }
-    requires few { length numbers.now ≤ 250000 }
+    requires few_pairs { length codes.now ≤ MOST_PAIRS }
+    requires few { length numbers.now ≤ MOST_PAIRS }
     requires ascending { IsStrictlyIncreasing numbers.now }
     requires there { (x : ℕ) → Contains codes.now (Some x) → Contains numbers.now x }
     ensures { IfOk result (λ table. IsCounted codes.now numbers.now table.of_pair.items table.firsts.items) }
@@ -257,9 +253,9 @@ pub(crate) fn group_table(
     reviewers: &[RuleReviewer],
     pairs: &[RulePair],
 ) -> Result<GroupTable, AllocError>
-    requires few { length reviewers.now ≤ 1500 }
-    requires few_pairs { length pairs.now ≤ 250000 }
-    requires places { (e : ℕ) → e < length pairs.now → ((pair_in pairs.now e).paper < 1500) × ((pair_in pairs.now e).reviewer < length reviewers.now) }
+    requires few { length reviewers.now ≤ MOST_REVIEWERS }
+    requires few_pairs { length pairs.now ≤ MOST_PAIRS }
+    requires places { (e : ℕ) → e < length pairs.now → ((pair_in pairs.now e).paper < MOST_PAPERS) × ((pair_in pairs.now e).reviewer < length reviewers.now) }
     ensures { IfOk result (λ table. (rules : RulesValue) → rules.reviewers ≡ reviewers.now → rules.pairs ≡ pairs.now → IsGroupTable rules table.of_pair.items table.firsts.items) }
 {
     let ranks = ranks(alloc, reviewers)?;

@@ -4,33 +4,35 @@
 mod answer;
 mod breaks;
 mod check;
-#[cfg(test)]
-mod check_tests;
 mod examples;
 mod group_check;
 mod groups;
-#[cfg(test)]
-mod groups_tests;
 mod ids;
 mod lists;
 mod lottery;
+mod magnitudes;
 mod making;
 mod matching;
 mod parts;
 mod pieces;
 mod rules;
-#[cfg(test)]
-mod rules_tests;
+mod sizes;
 
-pub use answer::{Answer, Blocked, Cut, Level, Mode, Prices, Side, Sieve, Winning};
+pub use answer::{
+    Answer, Blocked, Cut, Level, MOST_PRICE, MOST_TOTAL, Mode, Prices, Side, Sieve, Winning,
+};
 pub use breaks::Break;
 pub use check::{Scratch, first_break};
 pub use examples::{
     worked_breaks, worked_cuts, worked_groups, worked_ids, worked_sieves, worked_totals,
 };
 pub use groups::Group;
-pub use ids::{IdFault, Institution, PaperId, ReviewerId};
+pub use ids::{IdFault, Institution, MOST_ID_BYTES, PaperId, ReviewerId};
 pub use lists::{Places, PriceList, Shares};
 pub use lottery::{Lottery, Piece};
 pub use matching::matches;
-pub use rules::{MOST_TICKETS, RulePair, RulePaper, RuleReviewer, Rules, RulesFault};
+pub use rules::{
+    MOST_DEMAND, MOST_DEMAND_IN_ALL, MOST_LIMIT, MOST_LOAD, MOST_PAIRS, MOST_PAPERS,
+    MOST_REVIEWERS, MOST_SCORE, MOST_TICKETS, RulePair, RulePaper, RuleReviewer, Rules, RulesFault,
+};
+pub use sizes::Sizes;

@@ -1,6 +1,7 @@
 // Lists that contracts see as lists of numbers.
 
-ghost use Rattle.std.specs.Prelude.{◌≡◌, IfOk};
+ghost use Rattle.std.specs.Prelude.{◌≡◌, ◌↔◌, ◌<◌, All, IfOk, IsTrue};
+ghost use Rattle.match_rules.specs.Pieces.{DoAscend};
 
 use std::alloc::{AllocError, Global};
 use std::marker::Model;
@@ -41,6 +42,20 @@ impl Places {
         self.items.as_slice()
     }
 
+    /// Whether each place is below a count.
+    pub fn are_below(&self, count: u32) -> bool
+        ensures { IsTrue result ↔ All (λ place. place < count) self.now }
+    {
+        all_below(count, self.items.as_slice())
+    }
+
+    /// Whether the places strictly ascend.
+    pub fn do_ascend(&self) -> bool
+        ensures { IsTrue result ↔ DoAscend self.now }
+    {
+        do_ascend(self.items.as_slice())
+    }
+
     /// An equal list.
     pub fn copy(&self, alloc: Global) -> Result<Self, AllocError>
         ensures { IfOk result (λ copy. copy ≡ self.now) }
@@ -48,6 +63,23 @@ impl Places {
         let items = Vec::from_slice(alloc, self.items.as_slice())?;
         Ok(Places { items })
     }
+}
+
+fn all_below(count: u32, places: &[u32]) -> bool
+    ensures { IsTrue result ↔ All (λ place. place < count) places.now }
+{
+    places.iter().all(|place| *place < count)
+}
+
+fn do_ascend(places: &[u32]) -> bool
+    ensures { IsTrue result ↔ DoAscend places.now }
+{
+    for i in 1..places.len() {
+        if places[i - 1] >= places[i] {
+            return false;
+        }
+    }
+    true
 }
 
 /// A list of prices, each in 10^-6 of a score.
@@ -95,8 +127,7 @@ impl PriceList {
     }
 }
 
-/// The shares of the candidate pairs, by their places: one number of tickets
-/// for each pair.
+/// The shares of the candidate pairs, by their places: one number of tickets for each pair.
 #[derive(Drop)]
 pub struct Shares {
     tickets: Vec<u32>,

@@ -30,8 +30,8 @@ impl Piece {
     }
 }
 
-/// A list of pieces whose lists of places strictly ascend in lexicographic
-/// order, at most as many as the greatest number of tickets.
+/// A list of pieces whose lists of places strictly ascend in lexicographic order, at most as many as the greatest
+/// number of tickets.
 #[derive(Drop)]
 pub struct Lottery {
     pieces: Vec<Piece>,
@@ -50,8 +50,7 @@ impl Model for Lottery {
 }
 
 impl Lottery {
-    /// The lottery of these pieces, without taking memory. Pieces that aren't
-    /// one are given back.
+    /// The lottery of these pieces, without taking memory. Pieces that aren't one are given back.
     pub fn new(pieces: Vec<Piece>) -> Result<Lottery, Vec<Piece>>
         ensures value { IfOk result (λ lottery. lottery ≡ pieces.items) }
         ensures exact { IsOk result ↔ ArePieces pieces.items }

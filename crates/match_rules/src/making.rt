@@ -6,12 +6,14 @@ ghost use Rattle.match_rules.specs.RulesFaults.{IsFaultOf};
 
 use crate::groups::group_table;
 use crate::parts::{pair_fault, paper_fault, reviewer_fault};
-use crate::rules::{MOST_TICKETS, RulePair, RulePaper, RuleReviewer, Rules, RulesFault};
+use crate::rules::{
+    MOST_LIMIT, MOST_PAIRS, MOST_TICKETS, RulePair, RulePaper, RuleReviewer, Rules, RulesFault,
+};
 use std::alloc::{AllocError, Global};
 
 // The places of the pairs whose floor is all tickets, ascending.
 fn locked_of(alloc: Global, pairs: &[RulePair]) -> Result<Vec<u32>, AllocError>
-    requires { length pairs.now ≤ 250000 }
+    requires { length pairs.now ≤ MOST_PAIRS }
     ensures { IfOk result (λ places. places.items ≡ locked_places (rules_value 0 [] [] pairs.now)) }
 {
     let mut places = Vec::new(alloc);
@@ -23,13 +25,10 @@ fn locked_of(alloc: Global, pairs: &[RulePair]) -> Result<Vec<u32>, AllocError>
     Ok(places)
 }
 
-const MOST_LIMIT: u32 = 1_500;
-
 impl Rules {
-    /// The rules of a limit and three lists. Papers and reviewers ascend by the
-    /// bytes of their ids, pairs by the place of the paper and then that of the
-    /// reviewer. A fault names the first place at which a list, up to and with
-    /// it, breaks a condition.
+    /// The rules of a limit and three lists. Papers and reviewers ascend by the bytes of their ids, pairs by the place
+    /// of the paper and then that of the reviewer. A fault names the first place at which a list, up to and with it,
+    /// breaks a condition.
     pub fn new(
         alloc: Global,
         limit: u32,
@@ -60,8 +59,7 @@ impl Rules {
         }
     }
 
-    /// The rules of a limit and three lists, for a caller that tested all
-    /// their conditions.
+    /// The rules of a limit and three lists, for a caller that tested all their conditions.
     pub fn of_tested(
         alloc: Global,
         limit: u32,

@@ -1,55 +1,33 @@
 // Whether the lists and numbers of an answer are of the sizes of rules.
 
 ghost use Rattle.std.specs.Prelude.{◌≡◌, ◌↔◌, ◌<◌, ◌≤◌, All, IsTrue, length};
-ghost use Rattle.match_rules.specs.Answers.{IsWithin, most_price, most_total, ArePrices, AreMarks, CutMatches, LevelMatches, SharesMatch, LotteryMatches, PricesMatch, WinningMatches, AnswerMatches};
-ghost use Rattle.match_rules.specs.Rules.{most_score};
+ghost use Rattle.match_rules.specs.Answers.{IsWithin, most_price, ArePrices, AreMarks, CutMatches, LevelMatches, SharesMatch, LotteryMatches, PricesMatch, WinningMatches, AnswerMatches};
 
-use crate::answer::{Answer, Cut, Level, Prices, Winning};
+use crate::answer::{Answer, Cut, Level, MOST_PRICE, MOST_TOTAL, Prices, Winning};
 use crate::lists::{Places, PriceList, Shares};
 use crate::lottery::{Lottery, Piece};
-use crate::pieces::do_ascend;
-use crate::rules::{MOST_TICKETS, Rules};
+use crate::magnitudes::is_within;
+use crate::rules::{MOST_SCORE, MOST_TICKETS, Rules};
 
-const MOST_SCORE: i64 = 8_000_000_000;
-
-const MOST_PRICE: i64 = 10_000_000_000_000_000;
-
-const MOST_TOTAL: i128 = 1_000_000_000_000_000_000;
-
-fn are_below(count: usize, places: &[u32]) -> bool
-    ensures { IsTrue result ↔ All (λ place. place < count) places.now }
-{
-    places.iter().all(|place| (*place as usize) < count)
-}
-
-fn are_marks(count: usize, places: &Places) -> bool
+fn are_marks(count: u32, places: &Places) -> bool
     ensures { IsTrue result ↔ AreMarks count places.now }
 {
-    if !are_below(count, places.as_slice()) {
+    if !places.are_below(count) {
         return false;
     }
-    do_ascend(places.as_slice())
+    places.do_ascend()
 }
 
 fn cut_matches(rules: &Rules, cut: &Cut) -> bool
     ensures { IsTrue result ↔ CutMatches rules.now cut.now }
 {
-    if !are_marks(rules.papers().len(), &cut.papers) {
+    if !are_marks(rules.papers().len() as u32, &cut.papers) {
         return false;
     }
-    if !are_marks(rules.group_count() as usize, &cut.groups) {
+    if !are_marks(rules.group_count(), &cut.groups) {
         return false;
     }
-    are_marks(rules.reviewers().len(), &cut.reviewers)
-}
-
-fn is_score(score: i64) -> bool
-    ensures { IsTrue result ↔ IsWithin most_score score }
-{
-    if score < -MOST_SCORE {
-        return false;
-    }
-    score <= MOST_SCORE
+    are_marks(rules.reviewers().len() as u32, &cut.reviewers)
 }
 
 fn level_matches(rules: &Rules, level: &Level) -> bool
@@ -59,7 +37,7 @@ fn level_matches(rules: &Rules, level: &Level) -> bool
         Level::Unasked => true,
         Level::Free => true,
         Level::At { score, cut } => {
-            if !is_score(*score) {
+            if !is_within(MOST_SCORE, i128::from(*score)) {
                 return false;
             }
             cut_matches(rules, cut)
@@ -67,19 +45,12 @@ fn level_matches(rules: &Rules, level: &Level) -> bool
     }
 }
 
-fn is_price(price: i64) -> bool
-    ensures { IsTrue result ↔ IsWithin most_price price }
-{
-    if price < -MOST_PRICE {
-        return false;
-    }
-    price <= MOST_PRICE
-}
-
 fn is_each_price(prices: &[i64]) -> bool
     ensures { IsTrue result ↔ All (IsWithin most_price) prices.now }
 {
-    prices.iter().all(|price| is_price(*price))
+    prices
+        .iter()
+        .all(|price| is_within(MOST_PRICE, i128::from(*price)))
 }
 
 fn are_prices(count: usize, prices: &PriceList) -> bool
@@ -120,31 +91,16 @@ fn shares_match(rules: &Rules, shares: &Shares) -> bool
     is_each_share(shares)
 }
 
-fn has_places(count: usize, piece: &Piece) -> bool
-    ensures { IsTrue result ↔ All (λ e. e < count) piece.now.pairs }
-{
-    are_below(count, piece.pairs.as_slice())
-}
-
-fn have_places(count: usize, pieces: &[Piece]) -> bool
+fn have_places_below(count: u32, pieces: &[Piece]) -> bool
     ensures { IsTrue result ↔ All (λ piece. All (λ e. e < count) piece.pairs) pieces.now }
 {
-    pieces.iter().all(|piece| has_places(count, piece))
+    pieces.iter().all(|piece| piece.pairs.are_below(count))
 }
 
 fn lottery_matches(rules: &Rules, lottery: &Lottery) -> bool
     ensures { IsTrue result ↔ LotteryMatches rules.now lottery.now }
 {
-    have_places(rules.pairs().len(), lottery.pieces())
-}
-
-fn is_total(total: i128) -> bool
-    ensures { IsTrue result ↔ IsWithin most_total total }
-{
-    if total < -MOST_TOTAL {
-        return false;
-    }
-    total <= MOST_TOTAL
+    have_places_below(rules.pairs().len() as u32, lottery.pieces())
 }
 
 fn winning_matches(rules: &Rules, winning: &Winning) -> bool
@@ -153,7 +109,7 @@ fn winning_matches(rules: &Rules, winning: &Winning) -> bool
     if !level_matches(rules, &winning.level) {
         return false;
     }
-    if !is_total(winning.total) {
+    if !is_within(MOST_TOTAL, winning.total) {
         return false;
     }
     if !prices_match(rules, &winning.prices) {
@@ -165,8 +121,8 @@ fn winning_matches(rules: &Rules, winning: &Winning) -> bool
     lottery_matches(rules, &winning.lottery)
 }
 
-/// Whether all lists of an answer have the lengths that the rules ask for, its
-/// places are places of the rules, and its numbers are within their limits.
+/// Whether all lists of an answer have the lengths that the rules ask for, its places are places of the rules, and its
+/// numbers are within their limits.
 pub fn matches(rules: &Rules, answer: &Answer) -> bool
     ensures { IsTrue result ↔ AnswerMatches rules.now answer.now }
 {

@@ -5,32 +5,23 @@ ghost use Rattle.match_rules.specs.Id.{is_institution};
 ghost use Rattle.match_rules.specs.Rules.{ArePapers, AreReviewers, ArePairs, IsPair, IsPairBefore, IsFirstFault};
 ghost use Rattle.match_rules.specs.NextRows.{demand_below, IsNextPaper, IsNextReviewer, IsNextPair};
 
-use crate::rules::{MOST_TICKETS, RulePair, RulePaper, RuleReviewer};
+use crate::magnitudes::is_within;
+use crate::rules::{
+    MOST_DEMAND, MOST_DEMAND_IN_ALL, MOST_LOAD, MOST_PAIRS, MOST_PAPERS, MOST_REVIEWERS,
+    MOST_SCORE, MOST_TICKETS, RulePair, RulePaper, RuleReviewer,
+};
 
-const MOST_ROWS: usize = 1_500;
-
-const MOST_PAIRS: usize = 250_000;
-
-const MOST_DEMAND: u32 = 100;
-
-const MOST_DEMAND_IN_ALL: u32 = 4_500;
-
-const MOST_LOAD: u32 = 1_500;
-
-const MOST_SCORE: i64 = 8_000_000_000;
-
-// Whether a paper may follow the papers before it, which demand this many
-// reviewers.
+// Whether a paper may follow the papers before it, which demand this many reviewers.
 fn is_next_paper(papers: &[RulePaper], p: usize, before: u32) -> bool
-    requires at { p < length papers.now }
+    requires within { p < length papers.now }
     requires before { before ≡ demand_below papers.now p }
-    requires few { before ≤ 4500 }
+    requires few { before ≤ MOST_DEMAND_IN_ALL }
     ensures { IsTrue result ↔ IsNextPaper papers.now p }
 {
     let paper = &papers[p];
     // What was read as an id is one.
     let _text = paper.id.text();
-    if p >= MOST_ROWS {
+    if p >= MOST_PAPERS as usize {
         return false;
     }
     if paper.demand > MOST_DEMAND {
@@ -60,7 +51,7 @@ pub(crate) fn paper_fault(papers: &[RulePaper]) -> Option<u32>
 }
 
 fn has_loads(reviewer: &RuleReviewer) -> bool
-    ensures { IsTrue result ↔ ((reviewer.now.least ≤ reviewer.now.greatest) × (reviewer.now.greatest ≤ 1500)) }
+    ensures { IsTrue result ↔ ((reviewer.now.least ≤ reviewer.now.greatest) × (reviewer.now.greatest ≤ MOST_LOAD)) }
 {
     reviewer.least <= reviewer.greatest && reviewer.greatest <= MOST_LOAD
 }
@@ -83,7 +74,7 @@ fn is_next_reviewer(reviewers: &[RuleReviewer], r: usize) -> bool
     // What was read as an id is one.
     let _text = reviewer.id.text();
     read_institution(reviewer);
-    if r >= MOST_ROWS {
+    if r >= MOST_REVIEWERS as usize {
         return false;
     }
     if !has_loads(reviewer) {
@@ -107,18 +98,6 @@ pub(crate) fn reviewer_fault(reviewers: &[RuleReviewer]) -> Option<u32>
     None
 }
 
-fn is_pair_before(one: &RulePair, other: &RulePair) -> bool
-    ensures { IsTrue result ↔ IsPairBefore one.now other.now }
-{
-    if one.paper < other.paper {
-        return true;
-    }
-    if one.paper > other.paper {
-        return false;
-    }
-    one.reviewer < other.reviewer
-}
-
 // Whether a pair is of known places, with numbers within their limits.
 fn is_pair(papers: usize, reviewers: usize, pair: &RulePair) -> bool
     ensures { IsTrue result ↔ IsPair papers reviewers pair.now }
@@ -129,10 +108,7 @@ fn is_pair(papers: usize, reviewers: usize, pair: &RulePair) -> bool
     if pair.reviewer as usize >= reviewers {
         return false;
     }
-    if pair.score < -MOST_SCORE {
-        return false;
-    }
-    if pair.score > MOST_SCORE {
+    if !is_within(MOST_SCORE, i128::from(pair.score)) {
         return false;
     }
     if pair.floor != 0 && pair.floor != MOST_TICKETS {
@@ -149,7 +125,7 @@ fn is_next_pair(papers: usize, reviewers: usize, pairs: &[RulePair], e: usize) -
     requires { e < length pairs.now }
     ensures { IsTrue result ↔ IsNextPair papers reviewers pairs.now e }
 {
-    if e >= MOST_PAIRS {
+    if e >= MOST_PAIRS as usize {
         return false;
     }
     let pair = &pairs[e];
@@ -159,7 +135,7 @@ fn is_next_pair(papers: usize, reviewers: usize, pairs: &[RulePair], e: usize) -
     if e == 0 {
         return true;
     }
-    is_pair_before(&pairs[e - 1], pair)
+    pairs[e - 1].is_before(pair)
 }
 
 pub(crate) fn pair_fault(papers: usize, reviewers: usize, pairs: &[RulePair]) -> Option<u32>

@@ -9,17 +9,6 @@ ghost use Rattle.match_rules.specs.Pieces.{ArePieces, DoAscend, piece_at};
 use crate::lottery::Piece;
 use crate::rules::MOST_TICKETS;
 
-pub(crate) fn do_ascend(places: &[u32]) -> bool
-    ensures { IsTrue result ↔ DoAscend places.now }
-{
-    for i in 1..places.len() {
-        if places[i - 1] >= places[i] {
-            return false;
-        }
-    }
-    true
-}
-
 fn is_piece(piece: &Piece) -> bool
     ensures { IsTrue result ↔ (((1 ≤ piece.now.weight) × (piece.now.weight ≤ MOST_TICKETS)) × DoAscend piece.now.pairs) }
 {
@@ -29,7 +18,7 @@ fn is_piece(piece: &Piece) -> bool
     if piece.weight > MOST_TICKETS {
         return false;
     }
-    do_ascend(piece.pairs.as_slice())
+    piece.pairs.do_ascend()
 }
 
 fn is_each_piece(pieces: &[Piece]) -> bool

@@ -1,7 +1,8 @@
 // The rules of one edition: papers, reviewers and candidate pairs.
 
-ghost use Rattle.std.specs.Prelude.{◌≡◌, ◌↔◌, ◌<◌, ◌≤◌, length, IfOk, IfSome, IsNone, None, Some};
-ghost use Rattle.match_rules.specs.Groups.{group_count, group_of, group_key, first_member, paper_of_group};
+ghost use Rattle.std.specs.Prelude.{◌≡◌, ◌↔◌, ◌<◌, ◌≤◌, length, IfOk, IfSome, IsNone, IsTrue, None, Some};
+ghost use Rattle.std.specs.List.Sorted.{IsStrictlySortedBy};
+ghost use Rattle.match_rules.specs.Groups.{groups, group_count, group_of, group_key, key_cmp, first_member, paper_of_group};
 ghost use Rattle.match_rules.specs.GroupTable.{IsGroupTable};
 ghost use Rattle.match_rules.specs.Rules.{RulesValue, AreRules, locked_places, pair_at, reviewer_at, rules_value};
 
@@ -12,6 +13,30 @@ use std::marker::Model;
 
 /// The greatest number of tickets that a lottery is split over.
 pub const MOST_TICKETS: u32 = 10_000;
+
+/// The greatest number of papers.
+pub const MOST_PAPERS: u32 = 1_500;
+
+/// The greatest number of reviewers.
+pub const MOST_REVIEWERS: u32 = 1_500;
+
+/// The greatest number of candidate pairs.
+pub const MOST_PAIRS: u32 = 250_000;
+
+/// The greatest number of reviewers that one paper may demand.
+pub const MOST_DEMAND: u32 = 100;
+
+/// The greatest number of reviewers that all papers together may demand.
+pub const MOST_DEMAND_IN_ALL: u32 = 4_500;
+
+/// The greatest number of papers that one reviewer may be given.
+pub const MOST_LOAD: u32 = 1_500;
+
+/// The greatest limit on the reviewers of one institution for one paper.
+pub const MOST_LIMIT: u32 = 1_500;
+
+/// The greatest magnitude of a score, in 10^-6.
+pub const MOST_SCORE: u64 = 8_000_000_000;
 
 /// A paper with the number of reviewers that it needs in each assignment.
 #[derive(Drop)]
@@ -82,8 +107,25 @@ pub struct RulePair {
     pub cap: u32,
 }
 
-/// The rules of one edition, which keep all conditions of a lottery: papers,
-/// reviewers and pairs strictly ascend, and every number is within its limit.
+impl RulePair {
+    ghost use Rattle.match_rules.specs.Rules.{IsPairBefore};
+
+    /// Whether this pair stands before another: by the place of the paper, and then that of the reviewer.
+    pub fn is_before(&self, other: &RulePair) -> bool
+        ensures { IsTrue result ↔ IsPairBefore self.now other.now }
+    {
+        if self.paper < other.paper {
+            return true;
+        }
+        if self.paper > other.paper {
+            return false;
+        }
+        self.reviewer < other.reviewer
+    }
+}
+
+/// The rules of one edition, which keep all conditions of a lottery: papers, reviewers and pairs strictly ascend, and
+/// every number is within its limit.
 #[derive(Drop)]
 pub struct Rules {
     tickets: u32,
@@ -109,8 +151,8 @@ impl Model for Rules {
         × IsGroupTable (record { tickets = r.tickets; limit = r.limit; papers = r.papers.items; reviewers = r.reviewers.items; pairs = r.pairs.items }) r.groups.of_pair.items r.groups.firsts.items };
 }
 
-/// Why rules were refused: the first part, in the order limit, papers,
-/// reviewers, pairs, that breaks a condition, and its first place that does.
+/// Why rules were refused: the first part, in the order limit, papers, reviewers, pairs, that breaks a condition, and
+/// its first place that does.
 #[derive(Debug, Clone, Copy, PartialEq, Eq)]
 pub enum RulesFault {
     /// The limit isn't 1 to 1,500.
@@ -126,8 +168,7 @@ pub enum RulesFault {
 }
 
 impl Rules {
-    // The rules of a limit and three lists, with the places of the locked pairs
-    // and the groups.
+    // The rules of a limit and three lists, with the places of the locked pairs and the groups.
     pub(crate) fn of_parts(
         limit: u32,
         papers: Vec<RulePaper>,
@@ -160,8 +201,7 @@ impl Rules {
         self.tickets
     }
 
-    /// The greatest number of reviewers of one institution that one paper may
-    /// have in an assignment, 1 to 1,500.
+    /// The greatest number of reviewers of one institution that one paper may have in an assignment, 1 to 1,500.
     pub fn limit(&self) -> u32
         ensures value { result ≡ self.now.limit }
         ensures kept { AreRules self.now }
@@ -187,8 +227,7 @@ impl Rules {
         self.reviewers.as_slice()
     }
 
-    /// The candidate pairs, ascending by the place of the paper and then that
-    /// of the reviewer.
+    /// The candidate pairs, ascending by the place of the paper and then that of the reviewer.
     pub fn pairs(&self) -> &[RulePair]
         ensures value { result.now ≡ self.now.pairs }
         ensures len { length result.now ≡ length self.now.pairs }
@@ -204,12 +243,12 @@ impl Rules {
         self.locked.as_slice()
     }
 
-    /// The number of groups. A group is a paper and an institution, of which a
-    /// reviewer has a pair with the paper; groups ascend by the place of the
-    /// paper and then the bytes of the institution.
+    /// The number of groups. A group is a paper and an institution, of which a reviewer has a pair with the paper;
+    /// groups ascend by the place of the paper and then the bytes of the institution.
     pub fn group_count(&self) -> u32
         ensures value { result ≡ group_count self.now }
         ensures few { result ≤ length self.now.pairs }
+        ensures ascending { IsStrictlySortedBy key_cmp (groups self.now) }
         ensures kept { AreRules self.now }
     {
         self.groups.firsts.len() as u32
@@ -226,8 +265,7 @@ impl Rules {
         self.groups.of_pair[pair as usize]
     }
 
-    /// The paper of a group, and the first reviewer of its institution who has
-    /// a pair with the paper.
+    /// The paper of a group, and the first reviewer of its institution who has a pair with the paper.
     pub fn group_at(&self, group: u32) -> Group
         requires { group < group_count self.now }
         ensures paper { result.paper ≡ paper_of_group self.now group }

@@ -1,29 +1,25 @@
 use Rattle.std.proofs.Common.{length, ap, ◌∙◌, rules}
 use Rattle.match_rules.specs.Breaks.{first_break_of, piece_breaks, pair_breaks, tickets_break}
-use Rattle.match_rules.specs.Sound.{ScratchSizes, sizes_of}
+use Rattle.match_rules.specs.declared.sizes.Sizes.{Sizes}
 use Rattle.match_rules.proofs.Firsts.{first_of_two-first, first_of_two-second, none-tested}
 use Rattle.match_rules.proofs.Soundness.{sound_iff}
 use Rattle.match_rules.proofs.check.first_break.Goals as goal
 
 pub broken_piece-broken-requires-clause-papers : goal.broken_piece-broken-requires-clause-papers
-unfolding sizes_of
 broken_piece-broken-requires-clause-papers c =
-    ap length c.as_mut_slice.ensures.value ∙ ap (λ (sizes : ScratchSizes). sizes.papers) (c.scratch.view_is ∙ c.requires.scratch)
+    ap length c.as_mut_slice.ensures.value ∙ ap (λ (sizes : Sizes). sizes.papers) (c.scratch.view_is ∙ c.requires.scratch)
 
 pub broken_piece-broken-requires-clause-reviewers : goal.broken_piece-broken-requires-clause-reviewers
-unfolding sizes_of
 broken_piece-broken-requires-clause-reviewers c =
-    ap length c.as_mut_slice-2.ensures.value ∙ ap (λ (sizes : ScratchSizes). sizes.reviewers) (c.scratch.view_is ∙ c.requires.scratch)
+    ap length c.as_mut_slice-2.ensures.value ∙ ap (λ (sizes : Sizes). sizes.reviewers) (c.scratch.view_is ∙ c.requires.scratch)
 
 pub broken_piece-broken-requires-clause-groups : goal.broken_piece-broken-requires-clause-groups
-unfolding sizes_of
 broken_piece-broken-requires-clause-groups c =
-    ap length c.as_mut_slice-3.ensures.value ∙ ap (λ (sizes : ScratchSizes). sizes.groups) (c.scratch.view_is ∙ c.requires.scratch)
+    ap length c.as_mut_slice-3.ensures.value ∙ ap (λ (sizes : Sizes). sizes.groups) (c.scratch.view_is ∙ c.requires.scratch)
 
 pub broken_pair-requires-clause-size : goal.broken_pair-requires-clause-size
-unfolding sizes_of
 broken_pair-requires-clause-size c =
-    ap length c.as_mut_slice-4.ensures.value ∙ ap (λ (sizes : ScratchSizes). sizes.pairs) (c.scratch.view_is ∙ c.requires.scratch)
+    ap length c.as_mut_slice-4.ensures.value ∙ ap (λ (sizes : Sizes). sizes.pairs) (c.scratch.view_is ∙ c.requires.scratch)
 
 pub returns-then-is_some-clause-exact : goal.returns-then-is_some-clause-exact
 unfolding first_break_of

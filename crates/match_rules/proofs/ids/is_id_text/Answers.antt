@@ -1,20 +1,14 @@
-use Rattle.std.proofs.Common.{◌<◌, ◌≤◌, length, arith}
-use Rattle.std.proofs.lemmas.Bool.Decides.{nat_tests}
-use Rattle.match_rules.specs.Id.{is_id, is_id_char}
-use Rattle.match_rules.proofs.IdLaws.{is_name-empty, is_name-long, is_name-chars}
+use Rattle.std.proofs.Common.{◌≡◌, true, false, sym, ◌∙◌}
+use Rattle.match_rules.specs.Id.{is_id, is_id_char, has_id_length}
+use Rattle.match_rules.proofs.IdLaws.{is_name-length, is_name-chars}
 use Rattle.match_rules.proofs.ids.is_id_text.Goals as goal
 
-pub returns-then-is_empty : goal.returns-then-is_empty
+pub returns-then-not-has_id_length : goal.returns-then-not-has_id_length
 unfolding is_id
-returns-then-is_empty c = is_name-empty is_id_char c.args.text.now (grind (arith, nat_tests))
-
-pub returns-then-text-gt128 : goal.returns-then-text-gt128
-unfolding is_id
-returns-then-text-gt128 c = is_name-long is_id_char c.args.text.now (omega arith)
+returns-then-not-has_id_length c =
+    is_name-length is_id_char c.args.text.now (sym c.has_id_length.ensures ∙ c.if-not-has_id_length.true)
 
 pub returns : goal.returns
 unfolding is_id
 returns c =
-    let some : 0 < length c.args.text.now = grind (arith, nat_tests) in
-    let few : length c.args.text.now ≤ 128 = omega arith in
-    rw c.has_id_chars.ensures (is_name-chars is_id_char c.args.text.now some few c.utf8.text)
+    rw c.has_id_chars.ensures (is_name-chars is_id_char c.args.text.now (sym c.has_id_length.ensures ∙ c.if-not-has_id_length.false) c.utf8.text)
