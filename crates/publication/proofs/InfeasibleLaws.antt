@@ -13,7 +13,7 @@ use Rattle.text_lines.proofs.FormLaws.{fixed_spells, number_after_spells}
 use Rattle.text_lines.proofs.TextLaws.{Spells, IsLine, bind_ok, ok_is, item_takes, item_again}
 use Rattle.text_lines.proofs.WordLaws.{ascii_word, ascii_line}
 use Rattle.publication.specs.declared.answer_forms.AnswerKind.TheVariants as kinds
-use Rattle.publication.specs.declared.sizes.Sizes.{Sizes}
+use Rattle.match_rules.specs.declared.sizes.Sizes.{Sizes}
 use Rattle.publication.specs.Certificates.{AreMarked, IsBlockedFor}
 use Rattle.publication.specs.CutForms.{side_of, side_line, marks_of, marks_line}
 use Rattle.publication.specs.InfeasibleReading.{marked_at, cut_at, cut_of, sums_at, blocked_of, infeasible_at}

@@ -8,7 +8,7 @@ use Rattle.text_lines.specs.declared.fault.TextFault.{TextFault}
 use Rattle.text_lines.specs.declared.number.TheConstants.{MOST_AMOUNT}
 use Rattle.text_lines.specs.Forms.{fixed, number_after}
 use Rattle.text_lines.specs.Reading.{◌>>=◌, Cursor, due}
-use Rattle.publication.specs.declared.sizes.Sizes.{Sizes}
+use Rattle.match_rules.specs.declared.sizes.Sizes.{Sizes}
 use Rattle.publication.specs.CutForms.{side_of, marks_of}
 
 -- the marked papers, groups and reviewers

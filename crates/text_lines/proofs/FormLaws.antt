@@ -1,5 +1,5 @@
 -- Lines of fixed words, lines of a word and a number, and sections: what is read is spelled so, and read again.
-use Rattle.std.proofs.Common.{◌≡◌, ℕ, ◌^◌, ◌<◌, ◌≤◌, true, leb, List, [], ◌∷◌, ◌++◌, length, Option, None, Some, Result, Ok, ℤ, refl, sym, ap, subst, ◌∙◌, append_assoc, arith}
+use Rattle.std.proofs.Common.{◌≡◌, Bool, true, false, ℕ, ◌^◌, ◌<◌, ◌≤◌, leb, List, [], ◌∷◌, ◌++◌, length, Option, None, Some, Result, Ok, ℤ, refl, sym, ap, subst, ◌∙◌, append_assoc, arith}
 use Rattle.std.specs.Prelude.{decimal, nat_abs, option_to_list}
 use Rattle.std.proofs.lemmas.Option.{same_Some}
 use Rattle.std.specs.Fmt.{signed_decimal}
@@ -12,7 +12,7 @@ use Rattle.text_lines.specs.declared.fault.LineCode.TheVariants.{Form, Number, R
 use Rattle.text_lines.specs.declared.fault.TextFault.{TextFault}
 use Rattle.text_lines.specs.declared.fault.ReadError.{ReadError}
 use Rattle.text_lines.specs.Fields.{fields, with_spaces, two_of, three_or_four_of, five_of}
-use Rattle.text_lines.specs.Forms.{fixed, in_form, only_if, integer_from, number_from, number_after, number_of_fields, section_at, count_line, section_text}
+use Rattle.text_lines.specs.Forms.{fixed, in_form, needs, integer_from, number_from, number_after, number_of_fields, section_at, count_line, section_text}
 use Rattle.text_lines.specs.Numbers.{is_canonical, is_canonical_signed, value, signed_value, size}
 use Rattle.text_lines.specs.Reading.{◌>>=◌, Cursor, Gives, due, items_at, following}
 use Rattle.text_lines.specs.Texts.{line_of, lines_of, AllAlong}
@@ -24,6 +24,11 @@ use Rattle.text_lines.proofs.WordLaws.{IsWord, fields-with_spaces, words_line, n
 -- what follows a step that was taken
 pub gives_after : {X Y A : Type 0} (view : X → Y) (r : Result X ReadError) (now : Cursor) (first : Result A TextFault) (f : A → Result (Y × Cursor) TextFault) (a : A) → first ≡ Ok a → Gives view r now (f a) → Gives view r now (first >>= f)
 gives_after view r now first f a e h = rw e h
+
+-- a test that a line had to pass, and what was read behind it
+pub needs_ok : {A : Type 0} (test : Bool) (code : LineCode) (then_read : Result A LineCode) (x : A) → (needs test code >>= λ _. then_read) ≡ Ok x → (test ≡ true) × (then_read ≡ Ok x)
+needs_ok true code then_read x e = (refl, e)
+needs_ok false code then_read x e = absurd cc
 
 -- ---- fixed words
 
@@ -48,9 +53,9 @@ in_form_ok (Some y) x e = cc
 
 pub number_from_takes : (least most : ℕ) (field : List ℕ) (n : ℕ) → most < 2 ^ 64 → number_from least most field ≡ Ok n → (field ≡ decimal n) × (least ≤ n) × (n ≤ most)
 number_from_takes least most field n small e =
-    let a = guard_ok (is_canonical field) Number (only_if (leb (value field) most) Range (only_if (leb least (value field)) Range (Ok (value field)))) n e in
-    let b = guard_ok (leb (value field) most) Range (only_if (leb least (value field)) Range (Ok (value field))) n a.1 in
-    let c = guard_ok (leb least (value field)) Range (Ok (value field)) n b.1 in
+    let a = needs_ok (is_canonical field) Number (needs (leb (value field) most) Range >>= λ _. needs (leb least (value field)) Range >>= λ _. Ok (value field)) n e in
+    let b = needs_ok (leb (value field) most) Range (needs (leb least (value field)) Range >>= λ _. Ok (value field)) n a.1 in
+    let c = needs_ok (leb least (value field)) Range (Ok (value field)) n b.1 in
     let high = leb-true (value field) most b.0 in
     let low = leb-true least (value field) c.0 in
     let is : value field ≡ n = ok_is {E = LineCode} (value field) n c.1 in
@@ -65,8 +70,8 @@ number_from_again least most n small low high =
 
 pub integer_from_takes : (most : ℕ) (field : List ℕ) (z : ℤ) → most < 2 ^ 63 → integer_from most field ≡ Ok z → (field ≡ signed_decimal z) × (size field ≤ most) × (signed_value field ≡ z)
 integer_from_takes most field z small e =
-    let a = guard_ok (is_canonical_signed field) Number (only_if (leb (size field) most) Range (Ok (signed_value field))) z e in
-    let b = guard_ok (leb (size field) most) Range (Ok (signed_value field)) z a.1 in
+    let a = needs_ok (is_canonical_signed field) Number (needs (leb (size field) most) Range >>= λ _. Ok (signed_value field)) z e in
+    let b = needs_ok (leb (size field) most) Range (Ok (signed_value field)) z a.1 in
     let high = leb-true (size field) most b.0 in
     let is : signed_value field ≡ z = ok_is {E = LineCode} (signed_value field) z b.1 in
     (signed_takes field a.0 (omega (arith, high)) ∙ ap signed_decimal is, high, is)
@@ -118,7 +123,7 @@ pub number_after_takes : (word : List ℕ) (least most : ℕ) (line : List ℕ) 
 unfolding number_after count_line
 number_after_takes word least most line n small e =
     let a = bind_ok (in_form (two_of (fields line))) (λ f. number_of_fields word least most f) n e in
-    let b = guard_ok (bytes_eq a.0.0 word) Form (number_from least most a.0.1) n a.2 in
+    let b = needs_ok (bytes_eq a.0.0 word) Form (number_from least most a.0.1) n a.2 in
     let t = number_from_takes least most a.0.1 n small b.1 in
     (two_fields_spell line a.0 a.1 ∙ rw (same_words a.0.0 word b.0, t.0) refl, t.1, t.2)
 
