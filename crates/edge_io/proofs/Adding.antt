@@ -4,7 +4,7 @@ use Rattle.std.specs.Prelude.{Option, IsSome, Result, Ok, Err, IsErr}
 use Rattle.std.proofs.lemmas.List.{take_rest, append-nil, take-append-drop}
 use Rattle.std.proofs.Math.Seq.{take-add}
 use Rattle.std.proofs.lemmas.Result.{MatchResult-from_err}
-use Rattle.edge_io.specs.Told.{told, TellsNoMore, Adds, AddsAll, GrowsByFront}
+use Rattle.edge_io.specs.Told.{told, TellsNoMore, Adds, AddsAll, GrowsByFront, WroteFront}
 
 -- the first `at` bytes of the piece were added
 pub record AddsFront (old new : Option (List ℕ)) (piece : List ℕ) (at : ℕ) : Type 0 where
@@ -78,3 +78,7 @@ adds_then {old = old} {mid = mid} {new = new} {p = p} {q = q} {r = Err e} first 
   untold = λ t. first.untold (second.untold t);
   bytes = λ t. front_after (told old) (told mid) (told new) p q (first.bytes (second.untold t)) (second.bytes t);
 }
+
+-- what a writer that failed left behind
+pub wrote_front : {T E : Type 0} {old new : Option (List ℕ)} {p : List ℕ} {e : E} → AddsAll {T = T} old new (Err e) p → WroteFront old new p
+wrote_front failed = failed.bytes

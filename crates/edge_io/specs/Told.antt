@@ -27,6 +27,10 @@ pub record Adds {E : Type 0} (old new : Option (List ℕ)) (result : Result ℕ 
 abbrev pub GrowsByFront : List ℕ → List ℕ → List ℕ → Type 0
 GrowsByFront old new piece = (front rest : List ℕ) × (piece ≡ front ++ rest) × (new ≡ old ++ front)
 
+-- behind the old bytes stands a front of the text, where the bytes are told
+abbrev pub WroteFront : Option (List ℕ) → Option (List ℕ) → List ℕ → Type 0
+WroteFront old new text = IsSome new → GrowsByFront (told old) (told new) text
+
 -- the whole piece was added, and at an error a front of it
 pub record AddsAll {T E : Type 0} (old new : Option (List ℕ)) (result : Result T E) (piece : List ℕ) : Type 0 where
   pub untold : TellsNoMore old new

@@ -1,13 +1,33 @@
 // Readers and writers of std as sources and sinks. They tell no bytes: what a file or a stream gives, no proof knows.
 ghost use Rattle.std.specs.Prelude.{◌≡◌, ◌<◌, ◌≤◌, length, None, IfOk};
 ghost use Rattle.std.specs.Io.KnownBytes.{ReadConsumes, WriteAppends};
-ghost use Rattle.edge_io.specs.Adapters.{CountsFault};
+ghost use Rattle.edge_io.specs.Adapters.{CountsFault, read_answer, write_answer};
 ghost use Rattle.edge_io.specs.Counts.{HasCause};
 ghost use Rattle.edge_io.specs.Told.{TakesLeft, Adds};
 
 use crate::{Io, Sink, Source};
-use std::io::{Read, Write};
+use std::io::{self, Read, Write};
 use std::marker::Model;
+
+// What a read of std answered, as the answer of a source.
+fn read_answer(answer: io::Result<usize>) -> Result<usize, Io>
+    ensures { result ≡ read_answer answer }
+{
+    match answer {
+        Ok(n) => Ok(n),
+        Err(_) => Err(Io::Failed),
+    }
+}
+
+// What a write of std answered, as the answer of a sink.
+fn write_answer(answer: io::Result<usize>) -> Result<usize, Io>
+    ensures { result ≡ write_answer answer }
+{
+    match answer {
+        Ok(n) if n > 0 => Ok(n),
+        _ => Err(Io::Failed),
+    }
+}
 
 /// A reader of std as a source. Each read is one read of the reader; each error of it is counted as a fault.
 /// The count stays at 18,446,744,073,709,551,615 once it is there.
@@ -50,13 +70,11 @@ impl<R: Read> Source for ReadSource<R> {
         ensures given { Adds None None result room.new }
         ensures cause { HasCause self.old.faults self.new.faults result }
     {
-        match self.inner.read(room) {
-            Ok(n) => Ok(n),
-            Err(_) => {
-                self.faults = self.faults.saturating_add(1);
-                Err(Io::Failed)
-            }
+        let answer = read_answer(self.inner.read(room));
+        if answer.is_err() {
+            self.faults = self.faults.saturating_add(1);
         }
+        answer
     }
 }
 
@@ -99,12 +117,10 @@ impl<W: Write> Sink for WriteSink<W> {
         ensures taken { Adds None None result piece.now }
         ensures cause { HasCause self.old.faults self.new.faults result }
     {
-        match self.inner.write(piece) {
-            Ok(n) if n > 0 => Ok(n),
-            _ => {
-                self.faults = self.faults.saturating_add(1);
-                Err(Io::Failed)
-            }
+        let answer = write_answer(self.inner.write(piece));
+        if answer.is_err() {
+            self.faults = self.faults.saturating_add(1);
         }
+        answer
     }
 }

@@ -18,6 +18,3 @@ pub use memory::{MemorySink, MemorySource};
 pub use sure::{SureSink, SureSource};
 pub use traits::{Io, Sink, Source};
 pub use writing::write_all;
-
-#[cfg(test)]
-mod tests;

@@ -13,8 +13,8 @@ use Rattle.text_lines.specs.declared.fault.LineCode.TheVariants.{Form}
 use Rattle.text_lines.specs.Fields.{fields, with_spaces, one_of, two_of}
 use Rattle.text_lines.specs.Forms.{in_form, integer_from, number_from}
 use Rattle.text_lines.specs.Numbers.{signed_value, size, value}
-use Rattle.text_lines.proofs.FormLaws.{integer_from_takes, integer_from_again, number_from_takes, number_from_again, two_fields_spell, same_words}
-use Rattle.text_lines.proofs.TextLaws.{Spells, IsLine, bind_ok, guard_ok}
+use Rattle.text_lines.proofs.FormLaws.{needs_ok, integer_from_takes, integer_from_again, number_from_takes, number_from_again, two_fields_spell, same_words}
+use Rattle.text_lines.proofs.TextLaws.{Spells, IsLine, bind_ok}
 use Rattle.text_lines.proofs.FieldLaws.{with_spaces-fields}
 use Rattle.text_lines.proofs.WordLaws.{IsWord, fields-with_spaces, words_line, number_word, number_short, signed_word, signed_short, length-with_spaces_one, length-with_spaces_more}
 use Rattle.publication.specs.AnswerForms.{price_of, share_of, total_of, total_in, total_line}
@@ -114,7 +114,7 @@ unfolding total_of total_line
 total_spells = record {
   sound = λ before line z e.
       let a = bind_ok (in_form (two_of (fields line))) total_in z e in
-      let b = guard_ok (bytes_eq a.0.0 (codes "total")) Form (integer_from most_total a.0.1) z a.2 in
+      let b = needs_ok (bytes_eq a.0.0 (codes "total")) Form (integer_from most_total a.0.1) z a.2 in
       let t = within_takes most_total a.0.1 z (lit< tt) b.1 in
       (t.1, two_fields_spell line a.0 a.1 ∙ rw (same_words a.0.0 (codes "total") b.0, t.0) refl);
   complete = λ before z h.

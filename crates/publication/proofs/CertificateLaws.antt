@@ -18,9 +18,10 @@ use Rattle.text_lines.proofs.ItemsLaws.{end_ok}
 use Rattle.text_lines.proofs.TextLaws.{bind_ok, ok_is, guard_ok, item_takes, item_again}
 use Rattle.publication.specs.declared.answer_forms.AnswerKind.{AnswerKind}
 use Rattle.publication.specs.declared.answer_forms.AnswerKind.TheVariants as kinds
-use Rattle.publication.specs.declared.sizes.Sizes.{Sizes}
+use Rattle.match_rules.specs.declared.sizes.Sizes.{Sizes}
 use Rattle.publication.specs.AnswerForms.{kind_of}
-use Rattle.publication.specs.AnswerReading.{answer_at, answer_behind, certificate_at, lottery_at, sizes_of}
+use Rattle.publication.specs.AnswerReading.{answer_at, answer_behind, certificate_at, lottery_at}
+use Rattle.match_rules.specs.Sound.{sizes_of}
 use Rattle.publication.specs.Certificates.{IsAnswerFor, IsCertificate, IsSpelled, IsWholeAnswer, answer_text, certificate_text}
 use Rattle.publication.specs.InfeasibleReading.{infeasible_at}
 use Rattle.publication.specs.RulesReading.{rules_at}

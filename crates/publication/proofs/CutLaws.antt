@@ -9,11 +9,12 @@ use Rattle.match_rules.specs.Answers.{AreMarks}
 use Rattle.text_lines.specs.declared.fault.LineCode.{LineCode}
 use Rattle.text_lines.specs.declared.fault.LineCode.TheVariants.{Form, Number, Range, Order}
 use Rattle.text_lines.specs.Fields.{fields, with_spaces}
-use Rattle.text_lines.specs.Forms.{only_if}
+use Rattle.text_lines.specs.Forms.{needs}
+use Rattle.text_lines.specs.Reading.{◌>>=◌}
 use Rattle.text_lines.specs.Numbers.{is_canonical, value}
 use Rattle.text_lines.proofs.FieldLaws.{with_spaces-fields}
-use Rattle.text_lines.proofs.FormLaws.{same_words, words_same}
-use Rattle.text_lines.proofs.TextLaws.{Spells, IsLine, ok_is, guard_ok}
+use Rattle.text_lines.proofs.FormLaws.{needs_ok, same_words, words_same}
+use Rattle.text_lines.proofs.TextLaws.{Spells, IsLine, ok_is}
 use Rattle.text_lines.proofs.WordLaws.{IsWord, fields-with_spaces, words_line, ascii_line}
 use Rattle.publication.specs.declared.answer_forms.AnswerKind.{AnswerKind}
 use Rattle.publication.specs.declared.answer_forms.AnswerKind.TheVariants as kinds
@@ -108,7 +109,7 @@ marks_fit count places are = record { below = all_below count places are.0; asce
 pub marks_no_number : (count : ℕ) (parts : List (List ℕ)) → numbers_of parts ≡ None → marks_from count parts ≡ Err Number
 marks_no_number count parts e = by (list_all is_canonical parts) e
   where
-    by : (b : Bool) → cond b (Some (map (λ part. held (value part)) parts)) None ≡ None → cond b (marks_with count (map value parts)) (Err Number) ≡ Err Number
+    by : (b : Bool) → cond b (Some (map (λ part. held (value part)) parts)) None ≡ None → (needs b Number >>= λ _. marks_with count (map value parts)) ≡ Err Number
     by true e = absurd cc
     by false e = refl
 
@@ -116,10 +117,10 @@ marks_held : (count : ℕ) (parts : List (List ℕ)) → count < 2 ^ 32 → mark
 marks_held count parts small = rw (all_held count parts small) (by (list_all (λ place. nat_lt place count) (map value parts)) refl)
   where
     rest : List ℕ → Result (List ℕ) LineCode
-    rest places = only_if (ascends places) Order (Ok places)
+    rest places = needs (ascends places) Order >>= λ _. Ok places
 
     by : (b : Bool) → list_all (λ place. nat_lt place count) (map value parts) ≡ b
-        → cond b (rest (map (λ part. held (value part)) parts)) (Err Range) ≡ cond b (rest (map value parts)) (Err Range)
+        → (needs b Range >>= λ _. rest (map (λ part. held (value part)) parts)) ≡ (needs b Range >>= λ _. rest (map value parts))
     by true e = rw (same_places count parts small e) refl
     by false e = refl
 
@@ -127,7 +128,7 @@ pub marks_numbers : (count : ℕ) (parts : List (List ℕ)) (places : List ℕ) 
 marks_numbers count parts places small e = by (list_all is_canonical parts) e
   where
     by : (b : Bool) → cond b (Some (map (λ part. held (value part)) parts)) None ≡ Some places
-        → cond b (marks_with count (map value parts)) (Err Number) ≡ marks_with count places
+        → (needs b Number >>= λ _. marks_with count (map value parts)) ≡ marks_with count places
     by true e = let is : map (λ part. held (value part)) parts ≡ places = cc in rw (← is) (sym (marks_held count parts small))
     by false e = absurd cc
 
@@ -135,10 +136,10 @@ marks_take : (word : List ℕ) (count : ℕ) (parts : List (List ℕ)) (places :
     → FitsMarks count places × (parts ≡ word ∷ map decimal places)
 marks_take word count [] places small e = absurd cc
 marks_take word count (w ∷ ps) places small e =
-    let a = guard_ok (bytes_eq w word) Form (marks_from count ps) places e in
-    let b = guard_ok (list_all is_canonical ps) Number (marks_with count (map value ps)) places a.1 in
-    let c = guard_ok (list_all (λ place. nat_lt place count) (map value ps)) Range (only_if (ascends (map value ps)) Order (Ok (map value ps))) places b.1 in
-    let d = guard_ok (ascends (map value ps)) Order (Ok (map value ps)) places c.1 in
+    let a = needs_ok (bytes_eq w word) Form (marks_from count ps) places e in
+    let b = needs_ok (list_all is_canonical ps) Number (marks_with count (map value ps)) places a.1 in
+    let c = needs_ok (list_all (λ place. nat_lt place count) (map value ps)) Range (needs (ascends (map value ps)) Order >>= λ _. Ok (map value ps)) places b.1 in
+    let d = needs_ok (ascends (map value ps)) Order (Ok (map value ps)) places c.1 in
     let is : map value ps ≡ places = ok_is {E = LineCode} (map value ps) places d.1 in
     let fits : FitsMarks count (map value ps) = record { below = c.0; ascending = d.0 } in
     let text : (w ∷ ps) ≡ word ∷ map decimal (map value ps) =

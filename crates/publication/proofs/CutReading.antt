@@ -4,7 +4,7 @@ use Rattle.std.specs.Prelude.{codes}
 use Rattle.text_lines.specs.declared.fault.ReadError.{ReadError}
 use Rattle.text_lines.specs.Reading.{Cursor, Fails, due}
 use Rattle.text_lines.proofs.DueLaws.{bind_fails}
-use Rattle.publication.specs.declared.sizes.Sizes.{Sizes}
+use Rattle.match_rules.specs.declared.sizes.Sizes.{Sizes}
 use Rattle.publication.specs.CutForms.{marks_of}
 use Rattle.publication.specs.InfeasibleReading.{marked_at}
 

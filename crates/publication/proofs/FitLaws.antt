@@ -13,7 +13,7 @@ use Rattle.match_rules.specs.Pieces.{ArePieces, piece_at, no_piece}
 use Rattle.text_lines.specs.Reading.{AllFrom}
 use Rattle.text_lines.specs.Texts.{AllAlong}
 use Rattle.text_lines.proofs.TextLaws.{along_from, along_at, along_from_at}
-use Rattle.publication.specs.declared.sizes.Sizes.{Sizes}
+use Rattle.match_rules.specs.declared.sizes.Sizes.{Sizes}
 use Rattle.publication.specs.AnswerForms.{price_of, share_of, piece_of, piece_line, in_range}
 use Rattle.publication.specs.Certificates.{AreSharesFor, ArePiecesFor}
 use Rattle.publication.proofs.AnswerLaws.{price_spells, share_spells}

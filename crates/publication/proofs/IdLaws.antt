@@ -10,9 +10,10 @@ use Rattle.match_rules.specs.Id.{is_id, is_id_char, is_institution, is_instituti
 use Rattle.text_lines.specs.declared.fault.LineCode.{LineCode}
 use Rattle.text_lines.specs.declared.fault.LineCode.TheVariants.{Id}
 use Rattle.text_lines.specs.Fields.{with_spaces}
-use Rattle.text_lines.proofs.TextLaws.{guard_ok, ok_is}
+use Rattle.text_lines.proofs.TextLaws.{ok_is}
 use Rattle.publication.specs.RulesReading.{id_of, institution_of}
 use Rattle.text_lines.proofs.WordLaws.{IsWord, AllWords, Lacks-from_chars, length-with_spaces_one, length-with_spaces_more}
+use Rattle.text_lines.proofs.FormLaws.{needs_ok}
 
 -- a name of characters that pass a test
 record NameParts (test : ℕ → Bool) (id : List ℕ) : Type 0 where
@@ -55,7 +56,7 @@ id_word id e = name_word is_id_char id refl refl (name_parts is_id_char id e)
 -- an id that was read from a field
 pub id_of_takes : (field id : List ℕ) → id_of field ≡ Ok id → (is_id id ≡ true) × (field ≡ id)
 id_of_takes field id e =
-    let a = guard_ok (is_id field) Id (Ok field) id e in
+    let a = needs_ok (is_id field) Id (Ok field) id e in
     let same : field ≡ id = ok_is {E = LineCode} field id a.1 in
     (ap is_id (sym same) ∙ a.0, same)
 
@@ -78,7 +79,7 @@ institution_takes None home e =
     let same : None ≡ home = ok_is {E = LineCode} None home e in
     (λ name is. absurd (cc (same, is)), same)
 institution_takes (Some field) home e =
-    let a = guard_ok (is_institution field) Id (Ok (Some field)) home e in
+    let a = needs_ok (is_institution field) Id (Ok (Some field)) home e in
     let same : Some field ≡ home = ok_is {E = LineCode} (Some field) home a.1 in
     (λ name is. subst (λ (n : List ℕ). is_institution n ≡ true) (same_Some field name (same ∙ is)) a.0, same)
 

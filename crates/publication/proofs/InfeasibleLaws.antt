@@ -6,14 +6,14 @@ use Rattle.match_rules.specs.declared.answer.Cut.{Cut}
 use Rattle.match_rules.specs.declared.answer.Mode.TheVariants.{Whole}
 use Rattle.text_lines.specs.declared.fault.TextFault.{TextFault}
 use Rattle.text_lines.specs.declared.number.TheConstants.{MOST_AMOUNT}
-use Rattle.text_lines.specs.Forms.{fixed, counted, count_line}
+use Rattle.text_lines.specs.Forms.{fixed, number_after, count_line}
 use Rattle.text_lines.specs.Reading.{◌>>=◌, Cursor, due, following}
 use Rattle.text_lines.specs.Texts.{line_of}
-use Rattle.text_lines.proofs.FormLaws.{fixed_spells, counted_spells}
+use Rattle.text_lines.proofs.FormLaws.{fixed_spells, number_after_spells}
 use Rattle.text_lines.proofs.TextLaws.{Spells, IsLine, bind_ok, ok_is, item_takes, item_again}
 use Rattle.text_lines.proofs.WordLaws.{ascii_word, ascii_line}
 use Rattle.publication.specs.declared.answer_forms.AnswerKind.TheVariants as kinds
-use Rattle.publication.specs.declared.sizes.Sizes.{Sizes}
+use Rattle.match_rules.specs.declared.sizes.Sizes.{Sizes}
 use Rattle.publication.specs.Certificates.{AreMarked, IsBlockedFor}
 use Rattle.publication.specs.CutForms.{side_of, side_line, marks_of, marks_line}
 use Rattle.publication.specs.InfeasibleReading.{marked_at, cut_at, cut_of, sums_at, blocked_of, infeasible_at}
@@ -89,17 +89,17 @@ cut_again sizes number cut rest small are =
 end_line : IsLine (codes "end infeasible")
 end_line = ascii_line (codes "end infeasible") refl refl (lit≤ tt)
 
-need_spells : Spells {A = ℕ} (λ before. counted (codes "need") 0 MOST_AMOUNT) (λ before n. (0 ≤ n) × (n ≤ MOST_AMOUNT)) (count_line (codes "need"))
-need_spells = counted_spells (codes "need") 0 MOST_AMOUNT (ascii_word (codes "need") refl refl refl) (lit≤ tt) (lit< tt)
+need_spells : Spells {A = ℕ} (λ before. number_after (codes "need") 0 MOST_AMOUNT) (λ before n. (0 ≤ n) × (n ≤ MOST_AMOUNT)) (count_line (codes "need"))
+need_spells = number_after_spells (codes "need") 0 MOST_AMOUNT (ascii_word (codes "need") refl refl refl) (lit≤ tt) (lit< tt)
 
-room_spells : Spells {A = ℕ} (λ before. counted (codes "room") 0 MOST_AMOUNT) (λ before n. (0 ≤ n) × (n ≤ MOST_AMOUNT)) (count_line (codes "room"))
-room_spells = counted_spells (codes "room") 0 MOST_AMOUNT (ascii_word (codes "room") refl refl refl) (lit≤ tt) (lit< tt)
+room_spells : Spells {A = ℕ} (λ before. number_after (codes "room") 0 MOST_AMOUNT) (λ before n. (0 ≤ n) × (n ≤ MOST_AMOUNT)) (count_line (codes "room"))
+room_spells = number_after_spells (codes "room") 0 MOST_AMOUNT (ascii_word (codes "room") refl refl refl) (lit≤ tt) (lit< tt)
 
 sums_takes : (at rest : Cursor) (sums : ℕ × ℕ) → sums_at at ≡ Ok (sums, rest) → (sums.0 ≤ MOST_AMOUNT) × (sums.1 ≤ MOST_AMOUNT) × (at.bytes ≡ sums_text sums.0 sums.1 ++ rest.bytes)
 unfolding sums_at sums_text
 sums_takes at rest sums e =
-    let a = bind_ok (due (counted (codes "need") 0 MOST_AMOUNT) at) (λ need. due (counted (codes "room") 0 MOST_AMOUNT) need.1 >>= λ room. due (fixed (codes "end infeasible")) room.1 >>= λ end. Ok ((need.0, room.0), end.1)) (sums, rest) e in
-    let b = bind_ok (due (counted (codes "room") 0 MOST_AMOUNT) a.0.1) (λ room. due (fixed (codes "end infeasible")) room.1 >>= λ end. Ok ((a.0.0, room.0), end.1)) (sums, rest) a.2 in
+    let a = bind_ok (due (number_after (codes "need") 0 MOST_AMOUNT) at) (λ need. due (number_after (codes "room") 0 MOST_AMOUNT) need.1 >>= λ room. due (fixed (codes "end infeasible")) room.1 >>= λ end. Ok ((need.0, room.0), end.1)) (sums, rest) e in
+    let b = bind_ok (due (number_after (codes "room") 0 MOST_AMOUNT) a.0.1) (λ room. due (fixed (codes "end infeasible")) room.1 >>= λ end. Ok ((a.0.0, room.0), end.1)) (sums, rest) a.2 in
     let c = bind_ok (due (fixed (codes "end infeasible")) b.0.1) (λ end. Ok ((a.0.0, b.0.0), end.1)) (sums, rest) b.2 in
     let need = item_takes _ _ _ need_spells [] at a.0.1 a.0.0 a.1 in
     let room = item_takes _ _ _ room_spells [] a.0.1 b.0.1 b.0.0 b.1 in

@@ -12,6 +12,7 @@ pub mod PieceLaws
 pub mod PieceSpells
 pub mod ScanLaws
 pub mod FitLaws
+pub mod TestLaws
 pub mod CutLaws
 pub mod LotteryReading
 pub mod LotteryLaws

@@ -16,7 +16,7 @@ use Rattle.text_lines.proofs.TextLaws.{IsLine, bind_ok, ok_is, item_takes, item_
 use Rattle.text_lines.proofs.WordLaws.{IsWord, ascii_word, ascii_line}
 use Rattle.publication.specs.declared.answer_forms.AnswerKind.{AnswerKind}
 use Rattle.publication.specs.declared.answer_forms.AnswerKind.TheVariants as kinds
-use Rattle.publication.specs.declared.sizes.Sizes.{Sizes}
+use Rattle.match_rules.specs.declared.sizes.Sizes.{Sizes}
 use Rattle.publication.specs.AnswerForms.{price_of, share_of, total_of, piece_of, total_line, piece_line}
 use Rattle.publication.specs.AnswerReading.{answer_head_at, price_list_at, prices_at, shares_at, pieces_at, worth_at, lottery_at, winning_of}
 use Rattle.publication.specs.AnswerText.{answer_head_text, price_list_text, prices_text, worth_text, shares_text, pieces_text, lottery_text}

@@ -7,7 +7,7 @@ use Rattle.text_lines.specs.declared.fault.ReadError.{ReadError}
 use Rattle.text_lines.specs.Forms.{fixed, section_at}
 use Rattle.text_lines.specs.Reading.{Cursor, Fails, due}
 use Rattle.text_lines.proofs.DueLaws.{bind_fails}
-use Rattle.publication.specs.declared.sizes.Sizes.{Sizes}
+use Rattle.match_rules.specs.declared.sizes.Sizes.{Sizes}
 use Rattle.publication.specs.AnswerForms.{piece_of}
 use Rattle.publication.specs.AnswerReading.{price_list_at, prices_at, pieces_at}
 

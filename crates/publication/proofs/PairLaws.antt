@@ -10,12 +10,12 @@ use Rattle.match_rules.specs.Rules.{ArePairs, IsPair, IsPairBefore, pair_in, no_
 use Rattle.text_lines.specs.declared.fault.LineCode.{LineCode}
 use Rattle.text_lines.specs.declared.fault.LineCode.TheVariants.{Number, Range, Order}
 use Rattle.text_lines.specs.Fields.{fields, with_spaces, five_of}
-use Rattle.text_lines.specs.Forms.{in_form, only_if, number_from, integer_from}
+use Rattle.text_lines.specs.Forms.{in_form, needs, number_from, integer_from}
 use Rattle.text_lines.specs.Reading.{◌>>=◌}
 use Rattle.text_lines.specs.Texts.{AllAlong}
-use Rattle.text_lines.proofs.FormLaws.{five_fields_spell, number_from_takes, number_from_again, integer_from_takes, integer_from_again}
+use Rattle.text_lines.proofs.FormLaws.{needs_ok, five_fields_spell, number_from_takes, number_from_again, integer_from_takes, integer_from_again}
 use Rattle.text_lines.proofs.NumberLaws.{number_again, signed_again, size_abs, within_from, abs_from, mag_from}
-use Rattle.text_lines.proofs.TextLaws.{Spells, IsLine, bind_ok, guard_ok, ok_is, along_at, along_from_at}
+use Rattle.text_lines.proofs.TextLaws.{Spells, IsLine, bind_ok, ok_is, along_at, along_from_at}
 use Rattle.text_lines.proofs.WordLaws.{AllWords, fields-with_spaces, words_line, number_word, number_short, signed_word, signed_short, length-with_spaces_one, length-with_spaces_more}
 use Rattle.publication.specs.RulesReading.{are_numbers, is_before, is_pair_behind, pair_of, pair_fields, pair_with, place_of, places_of, ranged_of, tickets_of}
 use Rattle.publication.specs.RulesText.{pair_line}
@@ -28,8 +28,8 @@ pub record FitsPair (papers reviewers : ℕ) (before : List RulePair) (pair : Ru
 
 place_takes : (count : ℕ) (field : List ℕ) (place : ℕ) → count < 2 ^ 64 → place_of count field ≡ Ok place → (field ≡ decimal place) × (place < count)
 place_takes count field place small e =
-    let a = bind_ok (number_from 0 count field) (λ p. only_if (ltb p count) Range (Ok p)) place e in
-    let b = guard_ok (ltb a.0 count) Range (Ok a.0) place a.2 in
+    let a = bind_ok (number_from 0 count field) (λ p. needs (ltb p count) Range >>= λ _. Ok p) place e in
+    let b = needs_ok (ltb a.0 count) Range (Ok a.0) place a.2 in
     let same : a.0 ≡ place = ok_is {E = LineCode} a.0 place b.1 in
     let n = number_from_takes 0 count field a.0 small a.1 in
     subst (λ (p : ℕ). (field ≡ decimal p) × (p < count)) same (n.0, ltb-true a.0 count b.0)
@@ -72,9 +72,9 @@ whole_test n (inr all) = or_right (eqb n 0) (eqb n MOST_TICKETS) (eq-eqb n MOST_
 
 tickets_take : (floor cap : List ℕ) (tickets : ℕ × ℕ) → tickets_of floor cap ≡ Ok tickets → AreTickets floor cap tickets
 tickets_take floor cap tickets e =
-    let a = bind_ok (number_from 0 MOST_TICKETS cap) (λ most. number_from 0 most floor >>= λ least. only_if (eqb least 0 || eqb least MOST_TICKETS) Range (Ok (least, most))) tickets e in
-    let b = bind_ok (number_from 0 a.0 floor) (λ least. only_if (eqb least 0 || eqb least MOST_TICKETS) Range (Ok (least, a.0))) tickets a.2 in
-    let c = guard_ok (eqb b.0 0 || eqb b.0 MOST_TICKETS) Range (Ok (b.0, a.0)) tickets b.2 in
+    let a = bind_ok (number_from 0 MOST_TICKETS cap) (λ most. number_from 0 most floor >>= λ least. needs (eqb least 0 || eqb least MOST_TICKETS) Range >>= λ _. Ok (least, most)) tickets e in
+    let b = bind_ok (number_from 0 a.0 floor) (λ least. needs (eqb least 0 || eqb least MOST_TICKETS) Range >>= λ _. Ok (least, a.0)) tickets a.2 in
+    let c = needs_ok (eqb b.0 0 || eqb b.0 MOST_TICKETS) Range (Ok (b.0, a.0)) tickets b.2 in
     let most = number_from_takes 0 MOST_TICKETS cap a.0 (lit< tt) a.1 in
     let least = number_from_takes 0 a.0 floor b.0 (omega (arith, most.2)) b.1 in
     let same : (b.0, a.0) ≡ tickets = ok_is {E = LineCode} (b.0, a.0) tickets c.1 in
@@ -116,9 +116,9 @@ pair_sound : (papers reviewers : ℕ) → papers < 2 ^ 64 → reviewers < 2 ^ 64
 unfolding pair_of pair_line
 pair_sound papers reviewers small few before line pair e =
     let a = bind_ok (in_form (five_of (fields line))) (λ f. pair_fields papers reviewers before f) pair e in
-    let b = guard_ok (are_numbers a.0) Number (ranged_of papers reviewers a.0 >>= λ p. pair_with before p) pair a.2 in
+    let b = needs_ok (are_numbers a.0) Number (ranged_of papers reviewers a.0 >>= λ p. pair_with before p) pair a.2 in
     let c = bind_ok (ranged_of papers reviewers a.0) (λ p. pair_with before p) pair b.1 in
-    let d = guard_ok (is_pair_behind before c.0) Order (Ok c.0) pair c.2 in
+    let d = needs_ok (is_pair_behind before c.0) Order (Ok c.0) pair c.2 in
     let r = ranged_takes papers reviewers a.0 c.0 small few c.1 in
     let t = r.texts in
     let same : c.0 ≡ pair = ok_is {E = LineCode} c.0 pair d.1 in

@@ -10,11 +10,11 @@ use Rattle.match_rules.specs.Rules.{ArePapers, demand_total, no_paper, id_cmp}
 use Rattle.text_lines.specs.declared.fault.LineCode.{LineCode}
 use Rattle.text_lines.specs.declared.fault.LineCode.TheVariants.{Range, Order}
 use Rattle.text_lines.specs.Fields.{fields, with_spaces, two_of}
-use Rattle.text_lines.specs.Forms.{in_form, only_if, number_from}
+use Rattle.text_lines.specs.Forms.{in_form, needs, number_from}
 use Rattle.text_lines.specs.Reading.{◌>>=◌}
 use Rattle.text_lines.specs.Texts.{AllAlong}
-use Rattle.text_lines.proofs.FormLaws.{two_fields_spell, number_from_takes, number_from_again}
-use Rattle.text_lines.proofs.TextLaws.{Spells, IsLine, bind_ok, guard_ok, ok_is, along_at, along_from_at}
+use Rattle.text_lines.proofs.FormLaws.{needs_ok, two_fields_spell, number_from_takes, number_from_again}
+use Rattle.text_lines.proofs.TextLaws.{Spells, IsLine, bind_ok, ok_is, along_at, along_from_at}
 use Rattle.text_lines.proofs.WordLaws.{fields-with_spaces, words_line, number_word, number_short, length-with_spaces_one, length-with_spaces_more}
 use Rattle.publication.specs.RulesReading.{id_of, paper_of, paper_fields, paper_with, is_paper_behind}
 use Rattle.publication.specs.RulesText.{paper_line}
@@ -38,11 +38,11 @@ paper_sound before line paper e =
     let a = bind_ok (in_form (two_of (fields line))) (λ f. paper_fields before f) paper e in
     let b = bind_ok (number_from 0 100 a.0.1) (λ demand. paper_with before a.0.0 demand) paper a.2 in
     let n = number_from_takes 0 100 a.0.1 b.0 (lit< tt) b.1 in
-    let c = guard_ok (nat_le (demand_total before + b.0) 4500) Range (id_of a.0.0 >>= λ name. only_if (is_paper_behind before name) Order (Ok (record { id = name; demand = b.0 }))) paper b.2 in
-    let d = bind_ok (id_of a.0.0) (λ name. only_if (is_paper_behind before name) Order (Ok (record { id = name; demand = b.0 }))) paper c.1 in
+    let c = needs_ok (nat_le (demand_total before + b.0) 4500) Range (id_of a.0.0 >>= λ name. needs (is_paper_behind before name) Order >>= λ _. Ok (record { id = name; demand = b.0 })) paper b.2 in
+    let d = bind_ok (id_of a.0.0) (λ name. needs (is_paper_behind before name) Order >>= λ _. Ok (record { id = name; demand = b.0 })) paper c.1 in
     let i = id_of_takes a.0.0 d.0 d.1 in
     let made : RulePaper = record { id = d.0; demand = b.0 } in
-    let o = guard_ok (is_paper_behind before d.0) Order (Ok made) paper d.2 in
+    let o = needs_ok (is_paper_behind before d.0) Order (Ok made) paper d.2 in
     let same : made ≡ paper = ok_is {E = LineCode} made paper o.1 in
     let fits : FitsPaper before made = record { id = i.0; demand = n.2; in_all = leb-true _ _ c.0; order = o.0 } in
     let spelled : line ≡ with_spaces (made.id ∷ decimal made.demand ∷ []) = spelled_two line a.0.0 a.0.1 d.0 (decimal b.0) (two_fields_spell line a.0 a.1) i.1 n.0 in

@@ -9,22 +9,18 @@ use Rattle.match_rules.specs.declared.lottery.Piece.{Piece}
 use Rattle.match_rules.specs.declared.rules.TheConstants.{MOST_TICKETS}
 use Rattle.text_lines.specs.declared.fault.LineCode.{LineCode}
 use Rattle.text_lines.specs.declared.fault.LineCode.TheVariants.{Number, Range, Order}
-use Rattle.text_lines.specs.Forms.{only_if}
+use Rattle.text_lines.specs.Forms.{needs}
+use Rattle.text_lines.specs.Reading.{◌>>=◌}
 use Rattle.text_lines.specs.Numbers.{is_canonical, value}
 use Rattle.publication.specs.AnswerForms.{ascends, stands_behind, in_range, piece_with, piece_from, piece_in}
 use Rattle.publication.specs.Scans.{held, numbers_of}
-
--- places that ascend behind a last one
-abbrev pub ascends_after : Option ℕ → List ℕ → Bool
-ascends_after None places = ascends places
-ascends_after (Some last) places = ascends (last ∷ places)
 
 -- a line with a field that is no number
 pub piece_no_number : (pairs : ℕ) (before : List Piece) (parts : List (List ℕ)) → numbers_of parts ≡ None → piece_in pairs before parts ≡ Err Number
 piece_no_number pairs before [] e = absurd cc
 piece_no_number pairs before (w ∷ ps) e = by (list_all is_canonical (w ∷ ps)) e
   where
-    by : (b : Bool) → cond b (Some (map (λ part. held (value part)) (w ∷ ps))) None ≡ None → cond b (piece_with pairs before (value w) (map value ps)) (Err Number) ≡ Err Number
+    by : (b : Bool) → cond b (Some (map (λ part. held (value part)) (w ∷ ps))) None ≡ None → (needs b Number >>= λ _. piece_with pairs before (value w) (map value ps)) ≡ Err Number
     by true e = absurd cc
     by false e = refl
 
@@ -56,10 +52,10 @@ pub piece_held : (pairs : ℕ) (before : List Piece) (w : List ℕ) (ps : List (
 piece_held pairs before w ps small = rw (weight_held (value w), all_held pairs ps small) (by (in_range pairs (value w) (map value ps)) refl)
   where
     rest : ℕ → List ℕ → Result Piece LineCode
-    rest weight places = only_if (ascends places && stands_behind before places) Order (Ok (record { weight = weight; pairs = places }))
+    rest weight places = needs (ascends places && stands_behind before places) Order >>= λ _. Ok (record { weight = weight; pairs = places })
 
     by : (b : Bool) → in_range pairs (value w) (map value ps) ≡ b
-        → cond b (rest (held (value w)) (map (λ part. held (value part)) ps)) (Err Range) ≡ cond b (rest (value w) (map value ps)) (Err Range)
+        → (needs b Range >>= λ _. rest (held (value w)) (map (λ part. held (value part)) ps)) ≡ (needs b Range >>= λ _. rest (value w) (map value ps))
     by true e =
         let parts = and_parts (nat_le 1 (value w) && nat_le (value w) MOST_TICKETS) (list_all (λ place. nat_lt place pairs) (map value ps)) e in
         let weight = and_parts (nat_le 1 (value w)) (nat_le (value w) MOST_TICKETS) parts.0 in
@@ -74,6 +70,6 @@ piece_numbers pairs before [] xs small e = let none : [] ≡ xs = cc in rw (← 
 piece_numbers pairs before (w ∷ ps) xs small e = by (list_all is_canonical (w ∷ ps)) e
   where
     by : (b : Bool) → cond b (Some (map (λ part. held (value part)) (w ∷ ps))) None ≡ Some xs
-        → cond b (piece_with pairs before (value w) (map value ps)) (Err Number) ≡ piece_from pairs before xs
+        → (needs b Number >>= λ _. piece_with pairs before (value w) (map value ps)) ≡ piece_from pairs before xs
     by true e = let is : map (λ part. held (value part)) (w ∷ ps) ≡ xs = cc in rw (← is) (sym (piece_held pairs before w ps small))
     by false e = absurd cc

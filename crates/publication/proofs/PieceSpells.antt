@@ -9,13 +9,15 @@ use Rattle.match_rules.specs.declared.rules.TheConstants.{MOST_TICKETS}
 use Rattle.text_lines.specs.declared.fault.LineCode.{LineCode}
 use Rattle.text_lines.specs.declared.fault.LineCode.TheVariants.{Number, Range, Order}
 use Rattle.text_lines.specs.Fields.{fields, with_spaces}
-use Rattle.text_lines.specs.Forms.{only_if}
+use Rattle.text_lines.specs.Forms.{needs}
+use Rattle.text_lines.specs.Reading.{◌>>=◌}
 use Rattle.text_lines.specs.Numbers.{is_canonical, value}
 use Rattle.text_lines.proofs.NumberLaws.{number_takes, number_again}
-use Rattle.text_lines.proofs.TextLaws.{Spells, ok_is, guard_ok}
+use Rattle.text_lines.proofs.TextLaws.{Spells, ok_is}
 use Rattle.text_lines.proofs.FieldLaws.{with_spaces-fields}
 use Rattle.text_lines.proofs.WordLaws.{AllWords, fields-with_spaces, words_line, number_word, number_short, length-with_spaces_one, length-with_spaces_more}
 use Rattle.publication.specs.AnswerForms.{ascends, stands_behind, in_range, piece_with, piece_in, piece_of, piece_line}
+use Rattle.text_lines.proofs.FormLaws.{needs_ok}
 
 -- a piece that may stand behind others
 pub record FitsPiece (pairs : ℕ) (before : List Piece) (piece : Piece) : Type 0 where
@@ -90,10 +92,10 @@ piece_takes : (pairs : ℕ) (before : List Piece) (parts : List (List ℕ)) (pie
     → FitsPiece pairs before piece × (parts ≡ decimal piece.weight ∷ map decimal piece.pairs)
 piece_takes pairs before [] piece small e = absurd cc
 piece_takes pairs before (w ∷ ps) piece small e =
-    let a = guard_ok (list_all is_canonical (w ∷ ps)) Number (piece_with pairs before (value w) (map value ps)) piece e in
+    let a = needs_ok (list_all is_canonical (w ∷ ps)) Number (piece_with pairs before (value w) (map value ps)) piece e in
     let made : Piece = record { weight = value w; pairs = map value ps } in
-    let b = guard_ok (in_range pairs (value w) (map value ps)) Range (only_if (ascends (map value ps) && stands_behind before (map value ps)) Order (Ok made)) piece a.1 in
-    let d = guard_ok (ascends (map value ps) && stands_behind before (map value ps)) Order (Ok made) piece b.1 in
+    let b = needs_ok (in_range pairs (value w) (map value ps)) Range (needs (ascends (map value ps) && stands_behind before (map value ps)) Order >>= λ _. Ok made) piece a.1 in
+    let d = needs_ok (ascends (map value ps) && stands_behind before (map value ps)) Order (Ok made) piece b.1 in
     let is : made ≡ piece = ok_is {E = LineCode} made piece d.1 in
     let order = and_parts (ascends (map value ps)) (stands_behind before (map value ps)) d.0 in
     let fits : FitsPiece pairs before made = record { range = b.0; ascends = order.0; behind = order.1 } in

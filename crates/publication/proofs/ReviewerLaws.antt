@@ -8,13 +8,13 @@ use Rattle.match_rules.specs.Rules.{AreReviewers, no_reviewer, id_cmp}
 use Rattle.text_lines.specs.declared.fault.LineCode.{LineCode}
 use Rattle.text_lines.specs.declared.fault.LineCode.TheVariants.{Number, Order}
 use Rattle.text_lines.specs.Fields.{fields, with_spaces, three_or_four_of}
-use Rattle.text_lines.specs.Forms.{in_form, only_if, number_from}
+use Rattle.text_lines.specs.Forms.{in_form, needs, number_from}
 use Rattle.text_lines.specs.Numbers.{is_canonical}
 use Rattle.text_lines.specs.Reading.{◌>>=◌}
 use Rattle.text_lines.specs.Texts.{AllAlong}
-use Rattle.text_lines.proofs.FormLaws.{three_or_four_fields_spell, three_or_four_of_again, number_from_takes, number_from_again}
+use Rattle.text_lines.proofs.FormLaws.{needs_ok, three_or_four_fields_spell, three_or_four_of_again, number_from_takes, number_from_again}
 use Rattle.text_lines.proofs.NumberLaws.{number_again}
-use Rattle.text_lines.proofs.TextLaws.{Spells, IsLine, bind_ok, guard_ok, ok_is, along_at, along_from_at}
+use Rattle.text_lines.proofs.TextLaws.{Spells, IsLine, bind_ok, ok_is, along_at, along_from_at}
 use Rattle.text_lines.proofs.WordLaws.{AllWords, fields-with_spaces, words_line, number_word, number_short, length-with_spaces_more}
 use Rattle.publication.specs.RulesReading.{id_of, institution_of, loads_of, reviewer_of, reviewer_fields, reviewer_with, is_reviewer_behind}
 use Rattle.publication.specs.RulesText.{reviewer_line}
@@ -38,7 +38,7 @@ record AreLoads (least greatest : List ℕ) (loads : ℕ × ℕ) : Type 0 where
 
 loads_take : (least greatest : List ℕ) (loads : ℕ × ℕ) → loads_of least greatest ≡ Ok loads → AreLoads least greatest loads
 loads_take least greatest loads e =
-    let a = guard_ok (is_canonical least) Number (number_from 0 1500 greatest >>= λ most. number_from 0 most least >>= λ fewest. Ok (fewest, most)) loads e in
+    let a = needs_ok (is_canonical least) Number (number_from 0 1500 greatest >>= λ most. number_from 0 most least >>= λ fewest. Ok (fewest, most)) loads e in
     let b = bind_ok (number_from 0 1500 greatest) (λ most. number_from 0 most least >>= λ fewest. Ok (fewest, most)) loads a.1 in
     let c = bind_ok (number_from 0 b.0 least) (λ fewest. Ok (fewest, b.0)) loads b.2 in
     let g = number_from_takes 0 1500 greatest b.0 (lit< tt) b.1 in
@@ -65,12 +65,12 @@ reviewer_sound before line reviewer e =
     let a = bind_ok (in_form (three_or_four_of (fields line))) (λ f. reviewer_fields before f) reviewer e in
     let b = bind_ok (loads_of a.0.1 a.0.2) (λ loads. reviewer_with before a.0.0 a.0.3 loads) reviewer a.2 in
     let l = loads_take a.0.1 a.0.2 b.0 b.1 in
-    let d = bind_ok (id_of a.0.0) (λ name. institution_of a.0.3 >>= λ home. only_if (is_reviewer_behind before name) Order (Ok (record { id = name; institution = home; least = b.0.0; greatest = b.0.1 }))) reviewer b.2 in
+    let d = bind_ok (id_of a.0.0) (λ name. institution_of a.0.3 >>= λ home. needs (is_reviewer_behind before name) Order >>= λ _. Ok (record { id = name; institution = home; least = b.0.0; greatest = b.0.1 })) reviewer b.2 in
     let i = id_of_takes a.0.0 d.0 d.1 in
-    let h = bind_ok (institution_of a.0.3) (λ home. only_if (is_reviewer_behind before d.0) Order (Ok (record { id = d.0; institution = home; least = b.0.0; greatest = b.0.1 }))) reviewer d.2 in
+    let h = bind_ok (institution_of a.0.3) (λ home. needs (is_reviewer_behind before d.0) Order >>= λ _. Ok (record { id = d.0; institution = home; least = b.0.0; greatest = b.0.1 })) reviewer d.2 in
     let t = institution_takes a.0.3 h.0 h.1 in
     let made : RuleReviewer = record { id = d.0; institution = h.0; least = b.0.0; greatest = b.0.1 } in
-    let o = guard_ok (is_reviewer_behind before d.0) Order (Ok made) reviewer h.2 in
+    let o = needs_ok (is_reviewer_behind before d.0) Order (Ok made) reviewer h.2 in
     let same : made ≡ reviewer = ok_is {E = LineCode} made reviewer o.1 in
     let fits : FitsReviewer before made = record { id = i.0; home = t.0; loads = l.ordered; most = l.within; order = o.0 } in
     let text : line ≡ spelled made = spelled_same line a.0.0 a.0.1 a.0.2 d.0 (decimal b.0.0) (decimal b.0.1) a.0.3 h.0 (three_or_four_fields_spell line a.0 a.1) i.1 l.least_text l.greatest_text t.1 in

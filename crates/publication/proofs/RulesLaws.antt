@@ -9,10 +9,10 @@ use Rattle.match_rules.specs.declared.rules.TheConstants.{MOST_TICKETS}
 use Rattle.match_rules.specs.Rules.{RulesValue, AreRules, IsLimit, rules_value}
 use Rattle.text_lines.specs.declared.fault.TextFault.{TextFault}
 use Rattle.text_lines.specs.Fields.{with_spaces}
-use Rattle.text_lines.specs.Forms.{fixed, counted, count_line, section_at, section_text}
+use Rattle.text_lines.specs.Forms.{fixed, number_after, count_line, section_at, section_text}
 use Rattle.text_lines.specs.Reading.{◌>>=◌, Cursor, due, following}
 use Rattle.text_lines.specs.Texts.{line_of}
-use Rattle.text_lines.proofs.FormLaws.{fixed_spells, counted_spells, section_takes, section_again}
+use Rattle.text_lines.proofs.FormLaws.{fixed_spells, number_after_spells, section_takes, section_again}
 use Rattle.text_lines.proofs.TextLaws.{IsLine, bind_ok, ok_is, item_takes, item_again}
 use Rattle.text_lines.proofs.WordLaws.{IsWord, ascii_word, ascii_line}
 use Rattle.publication.specs.RulesLists.{AreLists}
@@ -47,11 +47,11 @@ limit_word = ascii_word (codes "limit") refl refl refl
 pub head_takes : (at rest : Cursor) (limit : ℕ) → head_at at ≡ Ok (limit, rest) → IsLimit limit × (at.bytes ≡ head_text MOST_TICKETS limit ++ rest.bytes)
 unfolding head_at head_text
 head_takes at rest limit e =
-    let a = bind_ok (due (fixed (codes "rules 1")) at) (λ kind. due (fixed (codes "tickets 10000")) kind.1 >>= λ tickets. due (counted (codes "limit") 1 1500) tickets.1) (limit, rest) e in
-    let b = bind_ok (due (fixed (codes "tickets 10000")) a.0.1) (λ tickets. due (counted (codes "limit") 1 1500) tickets.1) (limit, rest) a.2 in
+    let a = bind_ok (due (fixed (codes "rules 1")) at) (λ kind. due (fixed (codes "tickets 10000")) kind.1 >>= λ tickets. due (number_after (codes "limit") 1 1500) tickets.1) (limit, rest) e in
+    let b = bind_ok (due (fixed (codes "tickets 10000")) a.0.1) (λ tickets. due (number_after (codes "limit") 1 1500) tickets.1) (limit, rest) a.2 in
     let kind = item_takes _ _ _ (fixed_spells (codes "rules 1") kind_line) [] at a.0.1 a.0.0 a.1 in
     let tickets = item_takes _ _ _ (fixed_spells (codes "tickets 10000") tickets_is) [] a.0.1 b.0.1 b.0.0 b.1 in
-    let last = item_takes _ _ _ (counted_spells (codes "limit") 1 1500 limit_word (lit≤ tt) (lit< tt)) [] b.0.1 rest limit b.2 in
+    let last = item_takes _ _ _ (number_after_spells (codes "limit") 1 1500 limit_word (lit≤ tt) (lit< tt)) [] b.0.1 rest limit b.2 in
     let second : a.0.1.bytes ≡ line_of (count_line (codes "tickets") MOST_TICKETS) ++ b.0.1.bytes = tickets.1 ∙ ap (λ (t : List ℕ). line_of t ++ b.0.1.bytes) tickets_line in
     (last.0, seam at.bytes a.0.1.bytes rest.bytes (line_of (codes "rules 1")) _ kind.1 (seam a.0.1.bytes b.0.1.bytes rest.bytes (line_of (count_line (codes "tickets") MOST_TICKETS)) _ second last.1))
 
@@ -62,7 +62,7 @@ head_again limit number rest is =
     let tickets_text = line_of (codes "tickets 10000") in
     let kind = item_again _ _ _ (fixed_spells (codes "rules 1") kind_line) [] number (tickets_text ++ (limit_text ++ rest)) tt tt in
     let tickets = item_again _ _ _ (fixed_spells (codes "tickets 10000") tickets_is) [] (following number) (limit_text ++ rest) tt tt in
-    let last = item_again _ _ _ (counted_spells (codes "limit") 1 1500 limit_word (lit≤ tt) (lit< tt)) [] (following (following number)) rest limit is in
+    let last = item_again _ _ _ (number_after_spells (codes "limit") 1 1500 limit_word (lit≤ tt) (lit< tt)) [] (following (following number)) rest limit is in
     let regrouped : (line_of (codes "rules 1") ++ (line_of (count_line (codes "tickets") MOST_TICKETS) ++ limit_text)) ++ rest ≡ line_of (codes "rules 1") ++ (tickets_text ++ (limit_text ++ rest)) =
     append_assoc (line_of (codes "rules 1")) (line_of (count_line (codes "tickets") MOST_TICKETS) ++ limit_text) rest ∙ ap (λ (t : List ℕ). line_of (codes "rules 1") ++ t) (append_assoc (line_of (count_line (codes "tickets") MOST_TICKETS)) limit_text rest ∙ ap (λ (t : List ℕ). line_of t ++ (limit_text ++ rest)) (sym tickets_line)) in
     (following (following (following number)), rw (regrouped, kind, tickets) last)

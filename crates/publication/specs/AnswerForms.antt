@@ -12,7 +12,7 @@ use Rattle.match_rules.specs.Answers.{most_price, most_total}
 use Rattle.text_lines.specs.declared.fault.LineCode.{LineCode}
 use Rattle.text_lines.specs.declared.fault.LineCode.TheVariants.{Form, Number, Range, Order}
 use Rattle.text_lines.specs.Fields.{fields, with_spaces, one_of, two_of}
-use Rattle.text_lines.specs.Forms.{in_form, only_if, integer_from, number_from}
+use Rattle.text_lines.specs.Forms.{in_form, needs, integer_from, number_from}
 use Rattle.text_lines.specs.Numbers.{is_canonical, value}
 use Rattle.text_lines.specs.Reading.{◌>>=◌}
 use Rattle.publication.specs.declared.answer_forms.AnswerKind.{AnswerKind}
@@ -24,18 +24,26 @@ kind_of line = if bytes_eq line (codes "lottery 1") then Ok kinds.Lottery else (
 
 -- a line of one price
 unfoldable pub price_of : List ℕ → Result ℤ LineCode
-price_of line = in_form (one_of (fields line)) >>= integer_from most_price
+price_of line = do
+  field ← in_form (one_of (fields line))
+  integer_from most_price field
 
 -- a line of one share
 unfoldable pub share_of : List ℕ → Result ℕ LineCode
-share_of line = in_form (one_of (fields line)) >>= number_from 0 MOST_TICKETS
+share_of line = do
+  field ← in_form (one_of (fields line))
+  number_from 0 MOST_TICKETS field
 
 -- the line of the total
 abbrev pub total_in : List ℕ × List ℕ → Result ℤ LineCode
-total_in f = only_if (bytes_eq f.0 (codes "total")) Form (integer_from most_total f.1)
+total_in parts = do
+  named ← needs (bytes_eq parts.0 (codes "total")) Form
+  integer_from most_total parts.1
 
 unfoldable pub total_of : List ℕ → Result ℤ LineCode
-total_of line = in_form (two_of (fields line)) >>= total_in
+total_of line = do
+  parts ← in_form (two_of (fields line))
+  total_in parts
 
 unfoldable pub total_line : ℤ → List ℕ
 total_line total = with_spaces (codes "total" ∷ signed_decimal total ∷ [])
@@ -55,8 +63,10 @@ abbrev pub in_range : ℕ → ℕ → List ℕ → Bool
 in_range pairs weight places = (nat_le 1 weight && nat_le weight MOST_TICKETS) && list_all (λ place. nat_lt place pairs) places
 
 abbrev pub piece_with : ℕ → List Piece → ℕ → List ℕ → Result Piece LineCode
-piece_with pairs before weight places =
-    only_if (in_range pairs weight places) Range (only_if (ascends places && stands_behind before places) Order (Ok (record { weight = weight; pairs = places })))
+piece_with pairs before weight places = do
+  ranged ← needs (in_range pairs weight places) Range
+  ordered ← needs (ascends places && stands_behind before places) Order
+  Ok (record { weight = weight; pairs = places })
 
 -- the piece of numbers, of which the first is its weight
 abbrev pub piece_from : ℕ → List Piece → List ℕ → Result Piece LineCode
@@ -66,7 +76,9 @@ piece_from pairs before (weight ∷ places) = piece_with pairs before weight pla
 -- a line of a weight and places, behind the pieces before it
 abbrev pub piece_in : ℕ → List Piece → List (List ℕ) → Result Piece LineCode
 piece_in pairs before [] = Err Form
-piece_in pairs before (w ∷ ps) = only_if (list_all is_canonical (w ∷ ps)) Number (piece_with pairs before (value w) (map value ps))
+piece_in pairs before (w ∷ ps) = do
+  numbers ← needs (list_all is_canonical (w ∷ ps)) Number
+  piece_with pairs before (value w) (map value ps)
 
 unfoldable pub piece_of : ℕ → List Piece → List ℕ → Result Piece LineCode
 piece_of pairs before line = piece_in pairs before (fields line)

@@ -8,21 +8,17 @@ use Rattle.match_rules.specs.declared.answer.Prices.{Prices}
 use Rattle.match_rules.specs.declared.answer.Winning.{Winning}
 use Rattle.match_rules.specs.declared.lottery.Piece.{Piece}
 use Rattle.match_rules.specs.declared.rules.TheConstants.{MOST_TICKETS}
-use Rattle.match_rules.specs.Groups.{group_count}
 use Rattle.match_rules.specs.Rules.{RulesValue}
+use Rattle.match_rules.specs.Sound.{sizes_of}
 use Rattle.text_lines.specs.declared.fault.TextFault.{TextFault}
 use Rattle.text_lines.specs.Forms.{fixed, section_at}
 use Rattle.text_lines.specs.Reading.{◌>>=◌, Cursor, due, end_at}
-use Rattle.publication.specs.declared.sizes.Sizes.{Sizes}
+use Rattle.match_rules.specs.declared.sizes.Sizes.{Sizes}
 use Rattle.publication.specs.RulesReading.{rules_at}
 use Rattle.publication.specs.declared.answer_forms.AnswerKind.{AnswerKind}
 use Rattle.publication.specs.declared.answer_forms.AnswerKind.TheVariants as kinds
 use Rattle.publication.specs.AnswerForms.{kind_of, price_of, share_of, total_of, piece_of}
 use Rattle.publication.specs.InfeasibleReading.{infeasible_at}
-
--- how many papers, groups, reviewers and pairs rules have
-abbrev pub sizes_of : RulesValue → Sizes
-sizes_of rules = record { papers = length rules.papers; groups = group_count rules; reviewers = length rules.reviewers; pairs = length rules.pairs }
 
 -- the mode and the threshold
 unfoldable pub answer_head_at : Cursor → Result (Unit {0} × Cursor) TextFault

@@ -12,10 +12,11 @@ use Rattle.match_rules.specs.declared.rules.TheConstants.{MOST_TICKETS}
 use Rattle.match_rules.specs.Answers.{AnswerMatches, AreMarks, ArePrices, IsWithin, most_total}
 use Rattle.match_rules.specs.Pieces.{ArePieces}
 use Rattle.match_rules.specs.Rules.{RulesValue, AreRules}
+use Rattle.text_lines.specs.declared.number.TheConstants.{MOST_AMOUNT}
 use Rattle.publication.specs.declared.certificate.Certificate.{Certificate}
 use Rattle.publication.specs.declared.certificate.ReadRefusal.{ReadRefusal}
 use Rattle.publication.specs.declared.certificate.ReadRefusal.TheVariants.{Memory, ReadFault, Text}
-use Rattle.publication.specs.declared.sizes.Sizes.{Sizes}
+use Rattle.match_rules.specs.declared.sizes.Sizes.{Sizes}
 use Rattle.publication.specs.AnswerText.{lottery_text}
 use Rattle.publication.specs.InfeasibleText.{infeasible_text}
 use Rattle.publication.specs.RulesText.{rules_text}
@@ -55,8 +56,8 @@ pub record AreMarked (sizes : Sizes) (papers groups reviewers : List ℕ) : Type
 -- a cut with a list of each kind, and sums of 64 bits
 pub record IsBlockedFor (sizes : Sizes) (blocked : Blocked) : Type 0 where
   pub marked : AreMarked sizes blocked.cut.papers blocked.cut.groups blocked.cut.reviewers
-  pub need : blocked.need ≤ 18446744073709551615
-  pub room : blocked.room ≤ 18446744073709551615
+  pub need : blocked.need ≤ MOST_AMOUNT
+  pub room : blocked.room ≤ MOST_AMOUNT
 
 -- an answer with a list of each size
 abbrev pub IsAnswerFor : Sizes → Answer → Type 0
@@ -71,7 +72,7 @@ IsWholeAnswer (Infeasible blocked) = blocked.mode ≡ Whole
 -- what the types of an answer keep by themselves: the pieces of a lottery, sums of 64 bits of a cut
 abbrev pub IsSpelled : Answer → Type 0
 IsSpelled (Lottery winning) = ArePieces winning.lottery
-IsSpelled (Infeasible blocked) = (blocked.need ≤ 18446744073709551615) × (blocked.room ≤ 18446744073709551615)
+IsSpelled (Infeasible blocked) = (blocked.need ≤ MOST_AMOUNT) × (blocked.room ≤ MOST_AMOUNT)
 
 -- rules, and an answer of the mode whole that matches them
 pub record IsCertificate (rules : RulesValue) (answer : Answer) : Type 0 where

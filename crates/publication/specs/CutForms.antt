@@ -7,7 +7,8 @@ use Rattle.match_rules.specs.declared.answer.Side.TheVariants.{Into, OutOf}
 use Rattle.text_lines.specs.declared.fault.LineCode.{LineCode}
 use Rattle.text_lines.specs.declared.fault.LineCode.TheVariants.{Form, Number, Range, Order}
 use Rattle.text_lines.specs.Fields.{fields, with_spaces}
-use Rattle.text_lines.specs.Forms.{only_if}
+use Rattle.text_lines.specs.Forms.{needs}
+use Rattle.text_lines.specs.Reading.{◌>>=◌}
 use Rattle.text_lines.specs.Numbers.{is_canonical, value}
 use Rattle.publication.specs.AnswerForms.{ascends}
 
@@ -21,16 +22,23 @@ side_line OutOf = codes "cut out-of"
 
 -- places below a count that strictly ascend
 abbrev pub marks_with : ℕ → List ℕ → Result (List ℕ) LineCode
-marks_with count places = only_if (list_all (λ place. nat_lt place count) places) Range (only_if (ascends places) Order (Ok places))
+marks_with count places = do
+  known ← needs (list_all (λ place. nat_lt place count) places) Range
+  ordered ← needs (ascends places) Order
+  Ok places
 
 -- the places of numbers
 abbrev pub marks_from : ℕ → List (List ℕ) → Result (List ℕ) LineCode
-marks_from count parts = only_if (list_all is_canonical parts) Number (marks_with count (map value parts))
+marks_from count parts = do
+  numbers ← needs (list_all is_canonical parts) Number
+  marks_with count (map value parts)
 
 -- the places behind a word, of which there may be none
 abbrev pub marks_in : List ℕ → ℕ → List (List ℕ) → Result (List ℕ) LineCode
 marks_in word count [] = Err Form
-marks_in word count (w ∷ ps) = only_if (bytes_eq w word) Form (marks_from count ps)
+marks_in word count (w ∷ ps) = do
+  named ← needs (bytes_eq w word) Form
+  marks_from count ps
 
 unfoldable pub marks_of : List ℕ → ℕ → List ℕ → Result (List ℕ) LineCode
 marks_of word count line = marks_in word count (fields line)

@@ -6,9 +6,9 @@ use Rattle.match_rules.specs.declared.answer.Mode.TheVariants.{Whole}
 use Rattle.match_rules.specs.declared.answer.Side.{Side}
 use Rattle.text_lines.specs.declared.fault.TextFault.{TextFault}
 use Rattle.text_lines.specs.declared.number.TheConstants.{MOST_AMOUNT}
-use Rattle.text_lines.specs.Forms.{fixed, counted}
+use Rattle.text_lines.specs.Forms.{fixed, number_after}
 use Rattle.text_lines.specs.Reading.{◌>>=◌, Cursor, due}
-use Rattle.publication.specs.declared.sizes.Sizes.{Sizes}
+use Rattle.match_rules.specs.declared.sizes.Sizes.{Sizes}
 use Rattle.publication.specs.CutForms.{side_of, marks_of}
 
 -- the marked papers, groups and reviewers
@@ -31,8 +31,8 @@ cut_at sizes at = do
 -- what has to pass the cut and what may
 unfoldable pub sums_at : Cursor → Result ((ℕ × ℕ) × Cursor) TextFault
 sums_at at = do
-  need ← due (counted (codes "need") 0 MOST_AMOUNT) at
-  room ← due (counted (codes "room") 0 MOST_AMOUNT) need.1
+  need ← due (number_after (codes "need") 0 MOST_AMOUNT) at
+  room ← due (number_after (codes "room") 0 MOST_AMOUNT) need.1
   end ← due (fixed (codes "end infeasible")) room.1
   Ok ((need.0, room.0), end.1)
 

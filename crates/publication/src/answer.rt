@@ -8,9 +8,8 @@ ghost use Rattle.publication.specs.Certificates.{IsAnswerFor, IsWholeAnswer};
 use crate::answer_forms::{AnswerKind, KindLine};
 use crate::answer_text::read_lottery;
 use crate::infeasible_text::read_infeasible;
-use crate::sizes::Sizes;
 use edge_io::Source;
-use match_rules::Answer;
+use match_rules::{Answer, MOST_PAIRS, Sizes};
 use std::alloc::Global;
 use text_lines::{Lines, ReadError, read_line};
 
@@ -22,7 +21,7 @@ pub fn read_answer<S: Source>(
     source: &mut S,
     sizes: Sizes,
 ) -> Result<Answer, ReadError>
-    requires { sizes.pairs ≤ 250000 }
+    requires { sizes.pairs ≤ MOST_PAIRS }
     ensures reads { IsSome (S.left source.new) → Gives (λ answer. answer) result (cursor lines.new (S.left source.new)) (answer_at sizes (cursor lines.old (S.left source.old))) }
     ensures whole { IfOk result IsWholeAnswer }
     ensures fits { IfOk result (IsAnswerFor sizes) }

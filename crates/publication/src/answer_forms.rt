@@ -3,12 +3,9 @@ ghost use Rattle.std.specs.Prelude.{◌≡◌, ◌<◌, ◌≤◌, ◌^◌, ◌&
 ghost use Rattle.text_lines.specs.Reading.{GivesLine};
 ghost use Rattle.publication.specs.AnswerForms.{kind_of, price_of, share_of, total_of};
 
+use match_rules::{MOST_PRICE, MOST_TICKETS, MOST_TOTAL};
 use std::alloc::Global;
 use text_lines::{LineCode, LineError, LineForm, integer_from, number_from, one_field, two_fields};
-
-const MOST_PRICE: u64 = 10_000_000_000_000_000;
-
-const MOST_TOTAL: u64 = 1_000_000_000_000_000_000;
 
 /// What an answer is, by its first line.
 #[derive(Clone, Copy)]
@@ -45,7 +42,7 @@ fn share_of(line: &str) -> Result<u32, LineCode>
     ensures { result ≡ share_of line.now }
 {
     match one_field(line) {
-        Some(field) => number_from(field, 0, 10_000),
+        Some(field) => number_from(field, 0, MOST_TICKETS),
         None => Err(LineCode::Form),
     }
 }

@@ -8,9 +8,10 @@ ghost use Rattle.publication.specs.Certificates.{ArePricesFor, AreSharesFor, Are
 
 use crate::answer_forms::{PriceLine, ShareLine, TotalLine};
 use crate::pieces::PieceLine;
-use crate::sizes::Sizes;
 use edge_io::Source;
-use match_rules::{Level, Lottery, MOST_TICKETS, Mode, PriceList, Prices, Shares, Winning};
+use match_rules::{
+    Level, Lottery, MOST_PAIRS, MOST_TICKETS, Mode, PriceList, Prices, Shares, Sizes, Winning,
+};
 use std::alloc::Global;
 use text_lines::{Lines, ReadError, read_line, read_section, read_words};
 
@@ -103,7 +104,7 @@ fn read_pieces<S: Source>(
     source: &mut S,
     sizes: Sizes,
 ) -> Result<Lottery, ReadError>
-    requires { sizes.pairs ≤ 250000 }
+    requires { sizes.pairs ≤ MOST_PAIRS }
     ensures reads { IsSome (S.left source.new) → Gives (λ lottery. lottery) result (cursor lines.new (S.left source.new)) (pieces_at sizes (cursor lines.old (S.left source.old))) }
     ensures fits { IfOk result (ArePiecesFor sizes) }
     ensures untold { TellsNoMore (S.left source.old) (S.left source.new) }
@@ -143,7 +144,7 @@ pub fn read_lottery<S: Source>(
     source: &mut S,
     sizes: Sizes,
 ) -> Result<Winning, ReadError>
-    requires { sizes.pairs ≤ 250000 }
+    requires { sizes.pairs ≤ MOST_PAIRS }
     ensures reads { IsSome (S.left source.new) → Gives (λ winning. winning) result (cursor lines.new (S.left source.new)) (lottery_at sizes (cursor lines.old (S.left source.old))) }
     ensures whole { IfOk result IsWhole }
     ensures fits { IfOk result (IsLotteryFor sizes) }

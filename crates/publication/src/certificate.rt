@@ -10,9 +10,8 @@ ghost use Rattle.publication.specs.Certificates.{IsCertificate, ReadsAs, certifi
 
 use crate::answer::read_answer;
 use crate::rules_reading::read_rules;
-use crate::sizes::Sizes;
 use edge_io::Source;
-use match_rules::{Answer, Rules};
+use match_rules::{Answer, Rules, Sizes};
 use std::alloc::Global;
 use text_lines::{Lines, ReadError};
 

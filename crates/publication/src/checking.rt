@@ -16,12 +16,13 @@ ghost use Rattle.publication.specs.Checks.{counted_total, total_break, bound_bre
 
 use dual_check::{Excess, bound, excess};
 use match_rules::{
-    Answer, Blocked, Break, Level, Rules, Scratch, Shares, Sieve, Winning, first_break,
+    Answer, Blocked, Break, Level, MOST_TICKETS, Rules, Scratch, Shares, Sieve, Winning,
+    first_break,
 };
 
 // What the tickets of a pair add to the total.
 fn share_term(share: u32, score: i64) -> i128
-    requires few { share ≤ 10000 }
+    requires few { share ≤ MOST_TICKETS }
     ensures value { result ≡ pos share *ℤ score }
     ensures low { neg_ℤ (pos (2 ^ 80)) ≤ℤ result }
     ensures high { result ≤ℤ pos (2 ^ 80) }

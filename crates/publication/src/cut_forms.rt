@@ -6,7 +6,7 @@ ghost use Rattle.text_lines.specs.Reading.{GivesLine};
 ghost use Rattle.publication.specs.CutForms.{side_of, marks_with, marks_from, marks_of};
 
 use crate::numbers::numbers_in;
-use crate::pieces::{are_below, is_ascending};
+use crate::pieces::{are_below, do_ascend};
 use match_rules::{Places, Side};
 use std::alloc::Global;
 use text_lines::{LineCode, LineError, LineForm, first_field};
@@ -40,16 +40,16 @@ impl LineForm for SideLine {
     }
 }
 
-fn marks_with(count: u32, places: Vec<u32>) -> Result<Places, LineCode>
-    ensures { result ≡ marks_with count places.items }
+fn marks_with(count: u32, places: Places) -> Result<Places, LineCode>
+    ensures { result ≡ marks_with count places }
 {
-    if !are_below(places.as_slice(), count) {
+    if !are_below(&places, count) {
         return Err(LineCode::Range);
     }
-    if !is_ascending(places.as_slice()) {
+    if !do_ascend(&places) {
         return Err(LineCode::Order);
     }
-    Ok(Places::from_vec(places))
+    Ok(places)
 }
 
 // The places of a text with a number in each field.
@@ -59,7 +59,7 @@ fn marks_from(alloc: Global, count: u32, text: &[u8]) -> Result<Places, LineErro
     let Some(places) = numbers_in(alloc, text)? else {
         return Err(LineError::Code(LineCode::Number));
     };
-    match marks_with(count, places) {
+    match marks_with(count, Places::from_vec(places)) {
         Ok(places) => Ok(places),
         Err(code) => Err(LineError::Code(code)),
     }

@@ -9,9 +9,8 @@ ghost use Rattle.publication.specs.InfeasibleReading.{marked_at, cut_at, sums_at
 ghost use Rattle.publication.specs.Certificates.{AreMarked, IsBlockedFor};
 
 use crate::cut_forms::{MarksLine, SideLine};
-use crate::sizes::Sizes;
 use edge_io::Source;
-use match_rules::{Blocked, Cut, Mode, Places};
+use match_rules::{Blocked, Cut, Mode, Places, Sizes};
 use std::alloc::Global;
 use text_lines::{Lines, ReadError, read_amount, read_line, read_words};
 

@@ -16,13 +16,7 @@ mod reviewer_form;
 mod rules_lines;
 mod rules_reading;
 mod rules_writing;
-mod sizes;
 
 pub use certificate::{Certificate, ReadRefusal, read_certificate};
 pub use checking::check;
 pub use rules_writing::write_rules;
-
-#[cfg(test)]
-mod tests;
-#[cfg(test)]
-mod writing_tests;

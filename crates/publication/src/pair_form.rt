@@ -1,16 +1,13 @@
 // Lines of candidate pairs in the text of rules.
 ghost use Rattle.std.specs.Prelude.{◌≡◌, ◌&&◌, List, Result, Ok};
-ghost use Rattle.publication.specs.RulesReading.{are_numbers, is_before, is_pair_behind, pair_of, place_of, places_of, ranged_of, tickets_of};
+ghost use Rattle.publication.specs.RulesReading.{are_numbers, is_pair_behind, pair_of, place_of, places_of, ranged_of, tickets_of};
 
-use match_rules::{MOST_TICKETS, RulePair};
+use match_rules::{MOST_SCORE, MOST_TICKETS, RulePair};
 use std::alloc::Global;
 use text_lines::{
     LineCode, LineError, LineForm, five_fields, integer_from, is_canonical, is_canonical_signed,
     number_from,
 };
-
-/// The greatest magnitude of a score, in 10^-6.
-const MOST_SCORE: u64 = 8_000_000_000;
 
 /// Lines of a paper's and a reviewer's place, a score, a floor and a cap.
 #[derive(Drop)]
@@ -118,13 +115,7 @@ fn is_pair_behind(before: &[RulePair], pair: &RulePair) -> bool
     ensures { result ≡ is_pair_behind before.now pair.now }
 {
     match before.last() {
-        Some(last) => is_before(last, pair),
+        Some(last) => last.is_before(pair),
         None => true,
     }
-}
-
-fn is_before(a: &RulePair, b: &RulePair) -> bool
-    ensures { result ≡ is_before a.now b.now }
-{
-    a.paper < b.paper || (a.paper == b.paper && a.reviewer < b.reviewer)
 }

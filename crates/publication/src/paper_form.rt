@@ -4,7 +4,7 @@ ghost use Rattle.match_rules.specs.Rules.{demand_total};
 ghost use Rattle.text_lines.specs.Reading.{GivesLine};
 ghost use Rattle.publication.specs.RulesReading.{id_of, paper_of, is_paper_behind};
 
-use match_rules::{IdFault, PaperId, RulePaper};
+use match_rules::{IdFault, MOST_DEMAND, MOST_DEMAND_IN_ALL, PaperId, RulePaper};
 use std::alloc::Global;
 use text_lines::{LineCode, LineError, LineForm, number_from, two_fields};
 
@@ -23,9 +23,11 @@ impl PaperForm {
 }
 
 impl LineForm for PaperForm {
+    ghost use Rattle.match_rules.specs.declared.rules.TheConstants.{MOST_DEMAND_IN_ALL};
+
     type Item = RulePaper;
 
-    ghost ready = { λ form before. (form.demands ≡ demand_total before) × (form.demands ≤ 4500) };
+    ghost ready = { λ form before. (form.demands ≡ demand_total before) × (form.demands ≤ MOST_DEMAND_IN_ALL) };
 
     ghost reads = { λ form before line. paper_of before line };
 
@@ -39,8 +41,8 @@ impl LineForm for PaperForm {
         let Some((id, demand)) = two_fields(line) else {
             return Err(LineError::Code(LineCode::Form));
         };
-        let demand = number_from(demand, 0, 100)?;
-        if self.demands + demand > 4500 {
+        let demand = number_from(demand, 0, MOST_DEMAND)?;
+        if self.demands + demand > MOST_DEMAND_IN_ALL {
             return Err(LineError::Code(LineCode::Range));
         }
         let id = read_id(alloc, id)?;

@@ -10,63 +10,49 @@ use std::alloc::Global;
 use text_lines::{LineCode, LineError, LineForm};
 
 /// Whether places strictly ascend.
-pub fn is_ascending(places: &[u32]) -> bool
+pub fn do_ascend(places: &Places) -> bool
     ensures { result ≡ ascends places.now }
 {
-    let mut last: Option<u32> = None;
-    for place in places {
-        if let Some(before) = last {
-            if before >= *place {
-                return false;
-            }
-        }
-        last = Some(*place);
-    }
-    true
+    places.do_ascend()
 }
 
-fn stands_behind(before: &[Piece], places: &[u32]) -> bool
+fn stands_behind(before: &[Piece], places: &Places) -> bool
     ensures { result ≡ stands_behind before.now places.now }
 {
     match before.last() {
-        Some(piece) => piece.pairs.as_slice().cmp(places).is_lt(),
+        Some(piece) => piece.pairs.as_slice().cmp(places.as_slice()).is_lt(),
         None => true,
     }
 }
 
 /// Whether places are below a count.
-pub fn are_below(places: &[u32], count: u32) -> bool
+pub fn are_below(places: &Places, count: u32) -> bool
     ensures { result ≡ list_all (λ place. nat_lt place count) places.now }
 {
-    places.iter().all(|place| *place < count)
+    places.are_below(count)
 }
 
-fn is_in_range(pairs: u32, weight: u32, places: &[u32]) -> bool
+fn is_in_range(pairs: u32, weight: u32, places: &Places) -> bool
     ensures { result ≡ in_range pairs weight places.now }
 {
     (1 <= weight && weight <= MOST_TICKETS) && are_below(places, pairs)
 }
 
-fn piece_with(
-    pairs: u32,
-    before: &[Piece],
-    weight: u32,
-    places: Vec<u32>,
-) -> Result<Piece, LineCode>
-    ensures { result ≡ piece_with pairs before.now weight places.items }
+fn piece_with(pairs: u32, before: &[Piece], weight: u32, places: Places) -> Result<Piece, LineCode>
+    ensures { result ≡ piece_with pairs before.now weight places }
 {
-    if !is_in_range(pairs, weight, places.as_slice()) {
+    if !is_in_range(pairs, weight, &places) {
         return Err(LineCode::Range);
     }
-    if !is_ascending(places.as_slice()) {
+    if !do_ascend(&places) {
         return Err(LineCode::Order);
     }
-    if !stands_behind(before, places.as_slice()) {
+    if !stands_behind(before, &places) {
         return Err(LineCode::Order);
     }
     Ok(Piece {
         weight,
-        pairs: Places::from_vec(places),
+        pairs: places,
     })
 }
 
@@ -77,7 +63,7 @@ fn piece_from(pairs: u32, before: &[Piece], mut numbers: Vec<u32>) -> Result<Pie
         return Err(LineCode::Form);
     }
     let weight = numbers.remove(0);
-    piece_with(pairs, before, weight, numbers)
+    piece_with(pairs, before, weight, Places::from_vec(numbers))
 }
 
 fn piece_of(alloc: Global, pairs: u32, before: &[Piece], line: &[u8]) -> Result<Piece, LineError>

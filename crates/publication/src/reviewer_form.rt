@@ -4,7 +4,7 @@ ghost use Rattle.std.specs.Option.{option_map};
 ghost use Rattle.text_lines.specs.Reading.{GivesLine};
 ghost use Rattle.publication.specs.RulesReading.{id_of, institution_of, loads_of, reviewer_of, is_reviewer_behind};
 
-use match_rules::{IdFault, Institution, ReviewerId, RuleReviewer};
+use match_rules::{IdFault, Institution, MOST_LOAD, ReviewerId, RuleReviewer};
 use std::alloc::Global;
 use text_lines::{LineCode, LineError, LineForm, is_canonical, number_from, three_or_four_fields};
 
@@ -51,7 +51,7 @@ fn read_loads(least: &str, greatest: &str) -> Result<(u32, u32), LineCode>
     if !is_canonical(least.as_bytes()) {
         return Err(LineCode::Number);
     }
-    let greatest = number_from(greatest, 0, 1500)?;
+    let greatest = number_from(greatest, 0, MOST_LOAD)?;
     let least = number_from(least, 0, greatest)?;
     Ok((least, greatest))
 }

@@ -10,7 +10,9 @@ use crate::pair_form::PairForm;
 use crate::paper_form::PaperForm;
 use crate::reviewer_form::ReviewerForm;
 use edge_io::Source;
-use match_rules::{RulePair, RulePaper, RuleReviewer, Rules};
+use match_rules::{
+    MOST_LIMIT, MOST_PAIRS, MOST_PAPERS, MOST_REVIEWERS, RulePair, RulePaper, RuleReviewer, Rules,
+};
 use std::alloc::Global;
 use text_lines::{Lines, ReadError, read_count, read_section, read_words};
 
@@ -32,7 +34,7 @@ fn read_head<S: Source>(alloc: Global, lines: &mut Lines, source: &mut S) -> Res
 {
     read_words(alloc, lines, source, "rules 1")?;
     read_words(alloc, lines, source, "tickets 10000")?;
-    read_count(alloc, lines, source, "limit", 1, 1500)
+    read_count(alloc, lines, source, "limit", 1, MOST_LIMIT)
 }
 
 // The papers, the reviewers and the pairs.
@@ -53,7 +55,7 @@ fn read_lists<S: Source>(
         source,
         "papers",
         0,
-        1500,
+        MOST_PAPERS,
         &mut PaperForm::new(),
     )?;
     let reviewers = read_section(
@@ -62,14 +64,14 @@ fn read_lists<S: Source>(
         source,
         "reviewers",
         0,
-        1500,
+        MOST_REVIEWERS,
         &mut ReviewerForm,
     )?;
     let mut form = PairForm {
         papers: papers.len() as u32,
         reviewers: reviewers.len() as u32,
     };
-    let pairs = read_section(alloc, lines, source, "pairs", 0, 250_000, &mut form)?;
+    let pairs = read_section(alloc, lines, source, "pairs", 0, MOST_PAIRS, &mut form)?;
     Ok(Lists {
         papers,
         reviewers,

@@ -1,5 +1,5 @@
 -- Lines of fixed words, lines of a word and a number, and sections: what is read is spelled so, and read again.
-use Rattle.std.proofs.Common.{◌≡◌, ℕ, ◌^◌, ◌<◌, ◌≤◌, true, leb, List, [], ◌∷◌, ◌++◌, length, Option, None, Some, Result, Ok, ℤ, refl, sym, ap, subst, ◌∙◌, append_assoc, arith}
+use Rattle.std.proofs.Common.{◌≡◌, Bool, true, false, ℕ, ◌^◌, ◌<◌, ◌≤◌, leb, List, [], ◌∷◌, ◌++◌, length, Option, None, Some, Result, Ok, ℤ, refl, sym, ap, subst, ◌∙◌, append_assoc, arith}
 use Rattle.std.specs.Prelude.{decimal, nat_abs, option_to_list}
 use Rattle.std.proofs.lemmas.Option.{same_Some}
 use Rattle.std.specs.Fmt.{signed_decimal}
@@ -12,7 +12,7 @@ use Rattle.text_lines.specs.declared.fault.LineCode.TheVariants.{Form, Number, R
 use Rattle.text_lines.specs.declared.fault.TextFault.{TextFault}
 use Rattle.text_lines.specs.declared.fault.ReadError.{ReadError}
 use Rattle.text_lines.specs.Fields.{fields, with_spaces, two_of, three_or_four_of, five_of}
-use Rattle.text_lines.specs.Forms.{fixed, in_form, only_if, integer_from, number_from, counted, counted_of, section_at, count_line, section_text}
+use Rattle.text_lines.specs.Forms.{fixed, in_form, needs, integer_from, number_from, number_after, number_of_fields, section_at, count_line, section_text}
 use Rattle.text_lines.specs.Numbers.{is_canonical, is_canonical_signed, value, signed_value, size}
 use Rattle.text_lines.specs.Reading.{◌>>=◌, Cursor, Gives, due, items_at, following}
 use Rattle.text_lines.specs.Texts.{line_of, lines_of, AllAlong}
@@ -24,6 +24,11 @@ use Rattle.text_lines.proofs.WordLaws.{IsWord, fields-with_spaces, words_line, n
 -- what follows a step that was taken
 pub gives_after : {X Y A : Type 0} (view : X → Y) (r : Result X ReadError) (now : Cursor) (first : Result A TextFault) (f : A → Result (Y × Cursor) TextFault) (a : A) → first ≡ Ok a → Gives view r now (f a) → Gives view r now (first >>= f)
 gives_after view r now first f a e h = rw e h
+
+-- a test that a line had to pass, and what was read behind it
+pub needs_ok : {A : Type 0} (test : Bool) (code : LineCode) (then_read : Result A LineCode) (x : A) → (needs test code >>= λ _. then_read) ≡ Ok x → (test ≡ true) × (then_read ≡ Ok x)
+needs_ok true code then_read x e = (refl, e)
+needs_ok false code then_read x e = absurd cc
 
 -- ---- fixed words
 
@@ -48,9 +53,9 @@ in_form_ok (Some y) x e = cc
 
 pub number_from_takes : (least most : ℕ) (field : List ℕ) (n : ℕ) → most < 2 ^ 64 → number_from least most field ≡ Ok n → (field ≡ decimal n) × (least ≤ n) × (n ≤ most)
 number_from_takes least most field n small e =
-    let a = guard_ok (is_canonical field) Number (only_if (leb (value field) most) Range (only_if (leb least (value field)) Range (Ok (value field)))) n e in
-    let b = guard_ok (leb (value field) most) Range (only_if (leb least (value field)) Range (Ok (value field))) n a.1 in
-    let c = guard_ok (leb least (value field)) Range (Ok (value field)) n b.1 in
+    let a = needs_ok (is_canonical field) Number (needs (leb (value field) most) Range >>= λ _. needs (leb least (value field)) Range >>= λ _. Ok (value field)) n e in
+    let b = needs_ok (leb (value field) most) Range (needs (leb least (value field)) Range >>= λ _. Ok (value field)) n a.1 in
+    let c = needs_ok (leb least (value field)) Range (Ok (value field)) n b.1 in
     let high = leb-true (value field) most b.0 in
     let low = leb-true least (value field) c.0 in
     let is : value field ≡ n = ok_is {E = LineCode} (value field) n c.1 in
@@ -65,8 +70,8 @@ number_from_again least most n small low high =
 
 pub integer_from_takes : (most : ℕ) (field : List ℕ) (z : ℤ) → most < 2 ^ 63 → integer_from most field ≡ Ok z → (field ≡ signed_decimal z) × (size field ≤ most) × (signed_value field ≡ z)
 integer_from_takes most field z small e =
-    let a = guard_ok (is_canonical_signed field) Number (only_if (leb (size field) most) Range (Ok (signed_value field))) z e in
-    let b = guard_ok (leb (size field) most) Range (Ok (signed_value field)) z a.1 in
+    let a = needs_ok (is_canonical_signed field) Number (needs (leb (size field) most) Range >>= λ _. Ok (signed_value field)) z e in
+    let b = needs_ok (leb (size field) most) Range (Ok (signed_value field)) z a.1 in
     let high = leb-true (size field) most b.0 in
     let is : signed_value field ≡ z = ok_is {E = LineCode} (signed_value field) z b.1 in
     (signed_takes field a.0 (omega (arith, high)) ∙ ap signed_decimal is, high, is)
@@ -114,17 +119,17 @@ five_of_is (a ∷ b ∷ c ∷ d ∷ x ∷ y ∷ parts) f e = absurd cc
 pub five_fields_spell : (line : List ℕ) (f : List ℕ × List ℕ × List ℕ × List ℕ × List ℕ) → in_form (five_of (fields line)) ≡ Ok f → line ≡ with_spaces (f.0 ∷ f.1 ∷ f.2 ∷ f.3 ∷ f.4 ∷ [])
 five_fields_spell line f e = sym (with_spaces-fields line) ∙ ap with_spaces (five_of_is (fields line) f (in_form_ok (five_of (fields line)) f e))
 
-pub counted_takes : (word : List ℕ) (least most : ℕ) (line : List ℕ) (n : ℕ) → most < 2 ^ 64 → counted word least most line ≡ Ok n → (line ≡ count_line word n) × (least ≤ n) × (n ≤ most)
-unfolding counted count_line
-counted_takes word least most line n small e =
-    let a = bind_ok (in_form (two_of (fields line))) (λ f. counted_of word least most f) n e in
-    let b = guard_ok (bytes_eq a.0.0 word) Form (number_from least most a.0.1) n a.2 in
+pub number_after_takes : (word : List ℕ) (least most : ℕ) (line : List ℕ) (n : ℕ) → most < 2 ^ 64 → number_after word least most line ≡ Ok n → (line ≡ count_line word n) × (least ≤ n) × (n ≤ most)
+unfolding number_after count_line
+number_after_takes word least most line n small e =
+    let a = bind_ok (in_form (two_of (fields line))) (λ f. number_of_fields word least most f) n e in
+    let b = needs_ok (bytes_eq a.0.0 word) Form (number_from least most a.0.1) n a.2 in
     let t = number_from_takes least most a.0.1 n small b.1 in
     (two_fields_spell line a.0 a.1 ∙ rw (same_words a.0.0 word b.0, t.0) refl, t.1, t.2)
 
-pub counted_again : (word : List ℕ) (least most n : ℕ) → IsWord word → n < 2 ^ 64 → least ≤ n → n ≤ most → counted word least most (count_line word n) ≡ Ok n
-unfolding counted count_line
-counted_again word least most n is small low high =
+pub number_after_again : (word : List ℕ) (least most n : ℕ) → IsWord word → n < 2 ^ 64 → least ≤ n → n ≤ most → number_after word least most (count_line word n) ≡ Ok n
+unfolding number_after count_line
+number_after_again word least most n is small low high =
     rw (fields-with_spaces word (decimal n ∷ []) (is, (number_word n small, tt)), words_same word) (number_from_again least most n small low high)
 
 pub count_line_is : (word : List ℕ) (n : ℕ) → IsWord word → length word ≤ 1000 → n < 2 ^ 64 → IsLine (count_line word n)
@@ -132,10 +137,10 @@ unfolding count_line
 count_line_is word n is short small =
     words_line (word ∷ decimal n ∷ []) (is, (number_word n small, tt)) (omega (arith, length-with_spaces_more word (decimal n) [], length-with_spaces_one (decimal n), number_short n small))
 
-pub counted_spells : (word : List ℕ) (least most : ℕ) → IsWord word → length word ≤ 1000 → most < 2 ^ 64 → Spells (λ before. counted word least most) (λ before n. (least ≤ n) × (n ≤ most)) (λ n. count_line word n)
-counted_spells word least most is short small = record {
-  sound = λ before line n e. let t = counted_takes word least most line n small e in ((t.1, t.2), t.0);
-  complete = λ before n fits. counted_again word least most n is (omega (arith, fits.1)) fits.0 fits.1;
+pub number_after_spells : (word : List ℕ) (least most : ℕ) → IsWord word → length word ≤ 1000 → most < 2 ^ 64 → Spells (λ before. number_after word least most) (λ before n. (least ≤ n) × (n ≤ most)) (λ n. count_line word n)
+number_after_spells word least most is short small = record {
+  sound = λ before line n e. let t = number_after_takes word least most line n small e in ((t.1, t.2), t.0);
+  complete = λ before n fits. number_after_again word least most n is (omega (arith, fits.1)) fits.0 fits.1;
   lines = λ before n fits. count_line_is word n is short (omega (arith, fits.1));
 }
 
@@ -152,9 +157,9 @@ pub section_takes : {A : Type 0} (word : List ℕ) (least most : ℕ) (read : Li
     → (at rest : Cursor) (items : List A) → section_at word least most read at ≡ Ok (items, rest) → TakesSection word fits spell least most items at.bytes rest.bytes
 unfolding section_at section_text
 section_takes {A} word least most read fits spell spells small at rest items e =
-    let a = bind_ok (due (counted word least most) at) (λ count. items_at read count.0 [] count.1) (items, rest) e in
-    let head = due_takes (counted word least most) at a.0.1 a.0.0 a.1 in
-    let n = counted_takes word least most head.0 a.0.0 small head.1 in
+    let a = bind_ok (due (number_after word least most) at) (λ count. items_at read count.0 [] count.1) (items, rest) e in
+    let head = due_takes (number_after word least most) at a.0.1 a.0.0 a.1 in
+    let n = number_after_takes word least most head.0 a.0.0 small head.1 in
     let t = items_takes read fits spell spells a.0.0 [] items a.0.1 rest a.2 in
     let all : items ≡ t.0 = t.1.behind in
     let count : a.0.0 ≡ length items = sym t.1.count ∙ ap length (sym all) in
@@ -171,6 +176,6 @@ pub section_again : {A : Type 0} (word : List ℕ) (least most : ℕ) (read : Li
 unfolding section_at section_text
 section_again word least most read fits spell spells is short small items number rest low high along =
     let n = length items in
-    let head = due_again (counted word least most) number (count_line word n) (lines_of spell items ++ rest) n (count_line_is word n is short (omega (arith, high))) (counted_again word least most n is (omega (arith, high)) low high) in
+    let head = due_again (number_after word least most) number (count_line word n) (lines_of spell items ++ rest) n (count_line_is word n is short (omega (arith, high))) (number_after_again word least most n is (omega (arith, high)) low high) in
     let t = items_again read fits spell spells [] items (following number) rest along in
     (t.0, rw append_assoc (rw head t.1))

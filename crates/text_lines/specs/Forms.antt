@@ -18,29 +18,41 @@ abbrev pub in_form : {A : Type 0} → Option A → Result A LineCode
 in_form None = Err Form
 in_form (Some x) = Ok x
 
--- a test that has to hold before anything else
-abbrev pub only_if : {A : Type 0} → Bool → LineCode → Result A LineCode → Result A LineCode
-only_if test code then_read = if test then then_read else Err code
+-- a test that a line has to pass before anything else of it is read
+abbrev pub needs : Bool → LineCode → Result (Unit {0}) LineCode
+needs test code = if test then Ok tt else Err code
 
 -- the number that a field spells, from least to most
 abbrev pub number_from : ℕ → ℕ → List ℕ → Result ℕ LineCode
-number_from least most field = only_if (is_canonical field) Number (only_if (nat_le (value field) most) Range (only_if (nat_le least (value field)) Range (Ok (value field))))
+number_from least most field = do
+  canonical ← needs (is_canonical field) Number
+  high ← needs (nat_le (value field) most) Range
+  low ← needs (nat_le least (value field)) Range
+  Ok (value field)
 
 -- the signed number that a field spells, of a magnitude of at most so much
 abbrev pub integer_from : ℕ → List ℕ → Result ℤ LineCode
-integer_from most field = only_if (is_canonical_signed field) Number (only_if (nat_le (size field) most) Range (Ok (signed_value field)))
+integer_from most field = do
+  canonical ← needs (is_canonical_signed field) Number
+  small ← needs (nat_le (size field) most) Range
+  Ok (signed_value field)
 
--- the number of a line which has this word in front of it
-abbrev pub counted_of : List ℕ → ℕ → ℕ → List ℕ × List ℕ → Result ℕ LineCode
-counted_of word least most f = only_if (bytes_eq f.0 word) Form (number_from least most f.1)
+-- the number of two fields, of which the first is this word
+abbrev pub number_of_fields : List ℕ → ℕ → ℕ → List ℕ × List ℕ → Result ℕ LineCode
+number_of_fields word least most parts = do
+  named ← needs (bytes_eq parts.0 word) Form
+  number_from least most parts.1
 
-unfoldable pub counted : List ℕ → ℕ → ℕ → List ℕ → Result ℕ LineCode
-counted word least most line = in_form (two_of (fields line)) >>= λ f. counted_of word least most f
+-- the number of a line of this word and a number
+unfoldable pub number_after : List ℕ → ℕ → ℕ → List ℕ → Result ℕ LineCode
+number_after word least most line = do
+  parts ← in_form (two_of (fields line))
+  number_of_fields word least most parts
 
 -- a section: its word with the number of its items, and a line for each
 unfoldable pub section_at : {A : Type 0} → List ℕ → ℕ → ℕ → (List A → List ℕ → Result A LineCode) → Cursor → Result (List A × Cursor) TextFault
 section_at word least most read at = do
-  count ← due (counted word least most) at
+  count ← due (number_after word least most) at
   items_at read count.0 [] count.1
 
 -- the line of a word and a number

@@ -19,6 +19,3 @@ pub use words::{
     CountLine, FixedLine, integer_from, number_from, read_amount, read_count, read_section,
     read_words,
 };
-
-#[cfg(test)]
-mod tests;

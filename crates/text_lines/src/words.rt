@@ -2,7 +2,7 @@
 ghost use Rattle.std.specs.Prelude.{◌≡◌, ◌<◌, ◌≤◌, ◌^◌, [], IsSome, IfOk, List, Result, Ok, length};
 ghost use Rattle.edge_io.specs.Told.{told, TellsNoMore};
 ghost use Rattle.text_lines.specs.Reading.{Gives, GivesLine, FaultHasCause, AllFrom, cursor, due};
-ghost use Rattle.text_lines.specs.Forms.{fixed, counted, integer_from, number_from, section_at};
+ghost use Rattle.text_lines.specs.Forms.{fixed, number_after, integer_from, number_from, section_at};
 
 use crate::fault::{LineCode, LineError, ReadError};
 use crate::fields::two_fields;
@@ -47,10 +47,11 @@ impl<'a> LineForm for CountLine<'a> {
 
     ghost ready = { λ form before. Unit {0} };
 
-    ghost reads = { λ form before line. counted form.word.now form.least form.most line };
+    ghost reads = { λ form before line. number_after form.word.now form.least form.most line };
 
     fn read(&mut self, _alloc: Global, _before: &[u32], line: &str) -> Result<u32, LineError> {
-        Ok(counted(self.word, self.least, self.most, line)?)
+        let number = number_after(self.word, u64::from(self.least), u64::from(self.most), line)?;
+        Ok(number as u32)
     }
 }
 
@@ -67,16 +68,18 @@ impl<'a> LineForm for AmountLine<'a> {
 
     ghost ready = { λ form before. Unit {0} };
 
-    ghost reads = { λ form before line. counted form.word.now 0 MOST_AMOUNT line };
+    ghost reads = { λ form before line. number_after form.word.now 0 MOST_AMOUNT line };
 
     fn read(&mut self, _alloc: Global, _before: &[u64], line: &str) -> Result<u64, LineError> {
-        Ok(amount_in(self.word, line)?)
+        Ok(number_after(self.word, 0, MOST_AMOUNT, line)?)
     }
 }
 
-#[tactic(auto, unfolding(crate::specs::Forms::counted))]
-fn amount_in(word: &str, line: &str) -> Result<u64, LineCode>
-    ensures { result ≡ counted word.now 0 MOST_AMOUNT line.now }
+// The number of a line of this word and a number from `least` to `most`.
+#[tactic(auto, unfolding(crate::specs::Forms::number_after))]
+fn number_after(word: &str, least: u64, most: u64, line: &str) -> Result<u64, LineCode>
+    ensures exact { result ≡ number_after word.now least most line.now }
+    ensures high { IfOk result (λ number. number ≤ most) }
 {
     let Some((first, number)) = two_fields(line) else {
         return Err(LineCode::Form);
@@ -84,52 +87,30 @@ fn amount_in(word: &str, line: &str) -> Result<u64, LineCode>
     if first != word {
         return Err(LineCode::Form);
     }
-    amount_from(number)
+    amount_from(number, least, most)
 }
 
-#[tactic(auto, unfolding(crate::specs::Forms::counted))]
-fn counted(word: &str, least: u32, most: u32, line: &str) -> Result<u32, LineCode>
-    ensures { result ≡ counted word.now least most line.now }
+// The number of 64 bits that a field spells, from `least` to `most`.
+fn amount_from(field: &str, least: u64, most: u64) -> Result<u64, LineCode>
+    ensures exact { result ≡ number_from least most field.now }
+    ensures high { IfOk result (λ number. number ≤ most) }
 {
-    let Some((first, number)) = two_fields(line) else {
-        return Err(LineCode::Form);
-    };
-    if first != word {
-        return Err(LineCode::Form);
+    let text = field.as_bytes();
+    if !is_canonical(text) {
+        return Err(LineCode::Number);
     }
-    number_from(number, least, most)
+    match number_up_to(text, most) {
+        Some(number) if number >= least => Ok(number),
+        _ => Err(LineCode::Range),
+    }
 }
 
 /// The number that a field spells, from `least` to `most`.
 pub fn number_from(field: &str, least: u32, most: u32) -> Result<u32, LineCode>
     ensures { result ≡ number_from least most field.now }
 {
-    let text = field.as_bytes();
-    if !is_canonical(text) {
-        return Err(LineCode::Number);
-    }
-    let Some(number) = number_up_to(text, u64::from(most)) else {
-        return Err(LineCode::Range);
-    };
-    let number = number as u32;
-    if number < least {
-        return Err(LineCode::Range);
-    }
-    Ok(number)
-}
-
-// The number of 64 bits that a field spells.
-fn amount_from(field: &str) -> Result<u64, LineCode>
-    ensures { result ≡ number_from 0 MOST_AMOUNT field.now }
-{
-    let text = field.as_bytes();
-    if !is_canonical(text) {
-        return Err(LineCode::Number);
-    }
-    match number_up_to(text, MOST_AMOUNT) {
-        Some(number) => Ok(number),
-        None => Err(LineCode::Range),
-    }
+    let number = amount_from(field, u64::from(least), u64::from(most))?;
+    Ok(number as u32)
 }
 
 /// The signed number that a field spells, of a magnitude of at most `most`.
@@ -170,7 +151,7 @@ pub fn read_count<S: Source>(
     least: u32,
     most: u32,
 ) -> Result<u32, ReadError>
-    ensures reads { IsSome (S.left source.new) → Gives (λ item. item) result (cursor lines.new (S.left source.new)) (due (counted word.now least most) (cursor lines.old (S.left source.old))) }
+    ensures reads { IsSome (S.left source.new) → Gives (λ item. item) result (cursor lines.new (S.left source.new)) (due (number_after word.now least most) (cursor lines.old (S.left source.old))) }
     ensures low { IfOk result (λ number. least ≤ number) }
     ensures high { IfOk result (λ number. number ≤ most) }
     ensures untold { TellsNoMore (S.left source.old) (S.left source.new) }
@@ -192,7 +173,7 @@ pub fn read_amount<S: Source>(
     source: &mut S,
     word: &str,
 ) -> Result<u64, ReadError>
-    ensures reads { IsSome (S.left source.new) → Gives (λ item. item) result (cursor lines.new (S.left source.new)) (due (counted word.now 0 MOST_AMOUNT) (cursor lines.old (S.left source.old))) }
+    ensures reads { IsSome (S.left source.new) → Gives (λ item. item) result (cursor lines.new (S.left source.new)) (due (number_after word.now 0 MOST_AMOUNT) (cursor lines.old (S.left source.old))) }
     ensures untold { TellsNoMore (S.left source.old) (S.left source.new) }
     ensures cause { FaultHasCause (S.faults source.old) (S.faults source.new) result }
 {

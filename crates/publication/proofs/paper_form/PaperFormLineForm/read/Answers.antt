@@ -4,4 +4,4 @@ use Rattle.publication.proofs.paper_form.PaperFormLineForm.read.Goals as goal
 
 pub returns-clause-ready : goal.returns-clause-ready
 returns-clause-ready c =
-    (ap (λ n. n + c.in_ok-demand.demand) c.requires.0 ∙ sym (demand_total_push c.args.before.now (record { id = c.in_ok-id.id; demand = c.in_ok-demand.demand })), omega (arith, c.if-self-demand-gt4500.false))
+    (ap (λ n. n + c.in_ok-demand.demand) c.requires.0 ∙ sym (demand_total_push c.args.before.now (record { id = c.in_ok-id.id; demand = c.in_ok-demand.demand })), omega (arith, c.if-self-demand-gt-MOST_DEMAND_IN_ALL.false))
