@@ -7,11 +7,10 @@ ghost use Rattle.csv.specs.Machine.{next_record};
 ghost use Rattle.csv.specs.Reading.{default_config, strip_bom};
 ghost use Rattle.csv.specs.Records.{fields_of};
 ghost use Rattle.csv.specs.declared.parser.State.TheVariants as st;
-ghost use Rattle.bid_import.specs.Files.{is_header, first_number, first_row_of};
+ghost use Rattle.bid_import.specs.Files.{first_number, first_row_of};
 ghost use Rattle.bid_import.specs.Kinds.{columns_of};
 
-use crate::fault::FileKind;
-use crate::fields;
+use crate::file_kind::FileKind;
 use csv::{ByteRecord, ReaderBuilder, StringRecord};
 use std::alloc::{AllocError, Global};
 
@@ -26,21 +25,6 @@ fn first_record(alloc: Global, bytes: &[u8]) -> Result<Option<ByteRecord>, Alloc
         Ok(true) => Ok(Some(record)),
         Ok(false) => Ok(None),
         Err(_) => Err(AllocError),
-    }
-}
-
-fn has_columns(file: FileKind, found: &StringRecord) -> bool
-    ensures { result ≡ is_header (columns_of file) (fields_of found.now) }
-{
-    match file {
-        FileKind::Papers => fields::has_three(found, "paper", "demand", "institutions"),
-        FileKind::Reviewers => {
-            fields::has_four(found, "reviewer", "institution", "least", "greatest")
-        }
-        FileKind::Values => fields::has_three(found, "paper", "reviewer", "value"),
-        FileKind::Bids => fields::has_three(found, "paper", "reviewer", "bid"),
-        FileKind::Marks => fields::has_three(found, "paper", "reviewer", "mark"),
-        FileKind::Caps => fields::has_three(found, "paper", "reviewer", "cap"),
     }
 }
 
@@ -61,7 +45,7 @@ fn number_of(file: FileKind, raw: ByteRecord) -> u64
         Some(found) => found,
         None => return 1,
     };
-    if has_columns(file, &found) {
+    if file.has_columns(&found) {
         return 2;
     }
     1

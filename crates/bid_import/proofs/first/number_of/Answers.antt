@@ -1,7 +1,8 @@
 use Rattle.std.proofs.Common.{◌≡◌, false, refl}
 use Rattle.csv.specs.Records.{fields_of}
 use Rattle.bid_import.specs.Files.{is_header}
-use Rattle.bid_import.specs.Kinds.{columns_of, columns_of-text}
+use Rattle.bid_import.specs.Kinds.{columns_of}
+use Rattle.bid_import.proofs.ColumnTexts.{columns_of-text}
 use Rattle.bid_import.proofs.Progress.{no-header}
 use Rattle.bid_import.proofs.first.number_of.Goals as goal
 
