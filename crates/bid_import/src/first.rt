@@ -41,9 +41,8 @@ fn text_of(raw: ByteRecord) -> Option<StringRecord>
 fn number_of(file: FileKind, raw: ByteRecord) -> u64
     ensures { result ≡ first_number (columns_of file) (Some (fields_of raw)) }
 {
-    let found = match text_of(raw) {
-        Some(found) => found,
-        None => return 1,
+    let Some(found) = text_of(raw) else {
+        return 1;
     };
     if file.has_columns(&found) {
         return 2;
@@ -56,9 +55,8 @@ fn number_of(file: FileKind, raw: ByteRecord) -> u64
 pub fn first_row(alloc: Global, file: FileKind, bytes: &[u8]) -> Result<u64, AllocError>
     ensures { IfOk result (λ number. number ≡ first_row_of (columns_of file) bytes.now) }
 {
-    match first_record(alloc, bytes) {
-        Ok(Some(raw)) => Ok(number_of(file, raw)),
-        Ok(None) => Ok(1),
-        Err(error) => Err(error),
+    match first_record(alloc, bytes)? {
+        Some(raw) => Ok(number_of(file, raw)),
+        None => Ok(1),
     }
 }

@@ -137,9 +137,7 @@ pub(crate) fn read_rows<K: RowKind>(
             Ok(false) => break,
             Err(error) => return Err(unread(kind, &progress, &error)),
         }
-        if let Err(fault) = put(alloc, kind, &found, &mut progress) {
-            return Err(fault);
-        }
+        put(alloc, kind, &found, &mut progress)?;
     }
     Ok(progress.rows)
 }

@@ -210,7 +210,13 @@ fn sources_of(alloc: Global, node: &toml::Value) -> Result<Sources, KeyFault>
 pub(crate) fn default_sources(alloc: Global) -> Result<Sources, AllocError>
     ensures { IfOk result (λ sources. sources ≡ affinity ∷ []) }
 {
-    let source = source_with(alloc, "affinity", Kind::Values, 100, Value::from_tenthousandths(0))?;
+    let source = source_with(
+        alloc,
+        "affinity",
+        Kind::Values,
+        100,
+        Value::from_tenthousandths(0),
+    )?;
     let mut sources = Vec::new(alloc);
     sources.push(source)?;
     Ok(Sources::from_vec(sources))
