@@ -1,4 +1,4 @@
--- An amount that moves back along a way, and what it leaves.
+-- An amount that moves back along a path, and what it leaves.
 use Rattle.std.proofs.Common.{◌≡◌, ◌≢◌, ℕ, ◌<◌, List, sym, arith, inl, inr}
 use Rattle.std.specs.Prelude.{ℤ, pos, ◌+ℤ◌, ◌-ℤ◌, ◌≤ℤ◌, ◌<ℤ◌}
 use Rattle.std.proofs.lemmas.Int.{ints}
@@ -30,8 +30,8 @@ module _ (old new : List ℤ) (from to amount : ℕ) (shifted : IsShifted old ne
       let w2 = when-other to v amount (λ e. not_to (sym e)) in
       omega (arith, ints, shifted v, w1, w2)
 
-  pub from_falls : 0 < amount → excess_at new from <ℤ excess_at old from
-  from_falls some = omega (arith, ints, at_from, some)
+  pub from_decreases : 0 < amount → excess_at new from <ℤ excess_at old from
+  from_decreases some = omega (arith, ints, at_from, some)
 
   pub from_rich : pos amount ≤ℤ excess_at old from → pos 0 ≤ℤ excess_at new from
   from_rich enough = omega (arith, ints, at_from, enough)

@@ -1,4 +1,4 @@
--- The search as a distance falls, and as a node is settled.
+-- The search as a distance decreases, and as a node is settled.
 use Rattle.std.proofs.Common.{◌≡◌, ◌≢◌, ℕ, ◌<◌, ◌≤◌, ◌⊎◌, Bool, true, false, List, length, get_or-set_same, get_or-set_other, refl, ◌∙◌, arith, inl, inr}
 use Rattle.std.specs.Prelude.{pos, ◌≤ℤ◌, slice_set, slice_index}
 use Rattle.std.specs.declared.cmp.Reverse.{Reverse}

@@ -6,21 +6,21 @@ use Rattle.flow_solver.specs.State.{IsWithin}
 use Rattle.std.proofs.Math.ListN.{length-set}
 use Rattle.bounded_network.specs.Network.{potential_at}
 
--- what has fallen up to a place, by the nodes of the places and what each falls by
-pub record FallenTo (node fall : ℕ → ℕ) (old now : List ℤ) (place : ℕ) : Type 0 where
+-- what is updated up to a place, by the nodes of the places and what each decreases by
+pub record UpdatedTo (node decrease : ℕ → ℕ) (old now : List ℤ) (place : ℕ) : Type 0 where
   pub long : length now ≡ length old
-  pub fallen : (i : ℕ) → i < place → potential_at now (node i) ≡ potential_at old (node i) -ℤ pos (fall (node i))
+  pub updated : (i : ℕ) → i < place → potential_at now (node i) ≡ potential_at old (node i) -ℤ pos (decrease (node i))
   pub rest : (v : ℕ) → ((i : ℕ) → i < place → node i ≢ v) → potential_at now v ≡ potential_at old v
 
-pub fallen_more : (node fall : ℕ → ℕ) (old now : List ℤ) (place count : ℕ) (value : ℤ) → FallenTo node fall old now place → place < count
+pub updated_more : (node decrease : ℕ → ℕ) (old now : List ℤ) (place count : ℕ) (value : ℤ) → UpdatedTo node decrease old now place → place < count
     → ((i j : ℕ) → i < j → j < count → node i ≢ node j) → node place < length old
-    → value ≡ potential_at now (node place) -ℤ pos (fall (node place)) → FallenTo node fall old (slice_set now (node place) value) (place + 1)
-fallen_more node fall old now place count value before lt separate within is = record {
+    → value ≡ potential_at now (node place) -ℤ pos (decrease (node place)) → UpdatedTo node decrease old (slice_set now (node place) value) (place + 1)
+updated_more node decrease old now place count value before lt separate within is = record {
   long = length-set now (node place) value ∙ before.long;
-  fallen = below_more (λ i. potential_at (slice_set now (node place) value) (node i) ≡ potential_at old (node i) -ℤ pos (fall (node i))) place
-      (λ i h. let other : node i ≢ node place = separate i place h lt in rw get_or-set_other (before.fallen i h))
+  updated = below_more (λ i. potential_at (slice_set now (node place) value) (node i) ≡ potential_at old (node i) -ℤ pos (decrease (node i))) place
+      (λ i h. let other : node i ≢ node place = separate i place h lt in rw get_or-set_other (before.updated i h))
       (let inside : node place < length now = omega (arith, before.long, within) in
-      rw get_or-set_same (is ∙ ap (λ z. z -ℤ pos (fall (node place))) (before.rest (node place) (λ i h. separate i place h lt))));
+      rw get_or-set_same (is ∙ ap (λ z. z -ℤ pos (decrease (node place))) (before.rest (node place) (λ i h. separate i place h lt))));
   rest = λ v apart.
       let other : v ≢ node place = λ e. apart place (omega arith) (sym e) in
       rw get_or-set_other (before.rest v (λ i h. apart i (omega arith)));

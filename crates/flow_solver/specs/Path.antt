@@ -1,4 +1,4 @@
--- A way along the tree, from its root to its last node.
+-- A path along the tree, from its root to its last node.
 use Rattle.std.specs.Prelude.{ℕ, ◌≡◌, ◌≢◌, ◌-◌, ◌<◌, ◌≤◌, List, length, slice_index, pos}
 use Rattle.bounded_network.specs.Network.{NetworkValue, arc_at}
 use Rattle.flow_solver.specs.declared.state.State.{State}
@@ -6,8 +6,8 @@ use Rattle.flow_solver.specs.declared.search.Reach.{Reach}
 use Rattle.flow_solver.specs.Search.{reach_at}
 use Rattle.flow_solver.specs.Step.{start_of, end_of, left_on, step_reduced}
 
--- every step of the tree has reduced cost 0, no two take one arc, and the way to the last node can carry the amount
-pub record IsWay (net : NetworkValue) (state : State) (tree : List Reach) (amount : ℕ) : Type 0 where
+-- every step of the tree has reduced cost 0, no two take one arc, and the path to the last node can carry the amount
+pub record IsPath (net : NetworkValue) (state : State) (tree : List Reach) (amount : ℕ) : Type 0 where
   pub some : 0 < length tree
   pub wide : amount ≤ (reach_at tree (length tree - 1)).width
   pub froms : (i : ℕ) → 0 < i → i < length tree → (reach_at tree i).from < i

@@ -1,5 +1,5 @@
 use Rattle.flow_solver.specs.Coarse.{IsCoarse}
-use Rattle.flow_solver.proofs.coarse.take_turns.Given as goal
+use Rattle.flow_solver.proofs.coarse.discharge_all.Given as goal
 
 abbrev pub invariant-loop-effort : goal.invariant-loop-effort
 invariant-loop-effort l = IsCoarse l.net l.coarse

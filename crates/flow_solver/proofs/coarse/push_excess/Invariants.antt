@@ -1,6 +1,6 @@
 use Rattle.std.proofs.Common.{◌-◌}
 use Rattle.flow_solver.specs.Coarse.{IsCoarse}
-use Rattle.flow_solver.proofs.coarse.send.Given as goal
+use Rattle.flow_solver.proofs.coarse.push_excess.Given as goal
 
 abbrev pub invariant-loop-place : goal.invariant-loop-place
 invariant-loop-place l = IsCoarse l.net l.coarse

@@ -7,19 +7,19 @@ use Rattle.flow_solver.specs.Search.{reach_at, no_reach}
 use Rattle.flow_solver.specs.State.{IsShifted, excess_at}
 use Rattle.flow_solver.proofs.Bounds.{width_some}
 use Rattle.flow_solver.proofs.States.{excess_within}
-use Rattle.flow_solver.proofs.Ways.{from_falls, from_rich, others_stay, calm_stays}
-use Rattle.flow_solver.proofs.way.augment.Goals as goal
-use Rattle.flow_solver.proofs.way.augment.Goals.{After-index, After-min-amount, After-carry_along}
+use Rattle.flow_solver.proofs.Paths.{from_decreases, from_rich, others_stay, calm_stays}
+use Rattle.flow_solver.proofs.path.augment.Goals as goal
+use Rattle.flow_solver.proofs.path.augment.Goals.{After-index, After-min-amount, After-carry_along}
 
 index_is : (c : After-index) → c.index.result.now ≡ excess_at c.args.state.now.excess.items c.args.search.now.node
 index_is c =
-    let same = c.fall_to.ensures.excess in
-    let b : c.args.search.now.node < length c.fall_to.new.state.excess.items = rw same (omega (arith, c.requires.kept.excess_long, c.requires.found.search_kept.node_in)) in
+    let same = c.update_potentials.ensures.excess in
+    let b : c.args.search.now.node < length c.update_potentials.new.state.excess.items = rw same (omega (arith, c.requires.kept.excess_long, c.requires.found.search_kept.node_in)) in
     get_or_read _ _ _ b c.index.ensures (pos 0) ∙ ap (λ xs. excess_at xs c.args.search.now.node) same
 
-pub lack_of-lack-requires-clause-small : goal.lack_of-lack-requires-clause-small
-lack_of-lack-requires-clause-small c =
-    let e = index_is (goal.at.lack_of-lack-requires-clause-small c).After-index in
+pub deficit_of-deficit-requires-clause-small : goal.deficit_of-deficit-requires-clause-small
+deficit_of-deficit-requires-clause-small c =
+    let e = index_is (goal.at.deficit_of-deficit-requires-clause-small c).After-index in
     let small = excess_within c.args.net.now _ _ _ c.nodes-nodes.ensures.kept c.requires.kept c.args.search.now.node in
     record { low = omega (arith, ints, e, small.low); high = omega (arith, ints, e, small.high) }
 
@@ -34,14 +34,14 @@ last_is c =
 amount_wide : (c : After-min-amount) → c.min-amount.result ≤ (reach_at c.args.search.now.tree.items (length c.args.search.now.tree.items - 1)).width
 amount_wide c = let e = ap (λ (r : Reach). r.width) (last_is c) in omega (arith, c.min-amount.ensures, e)
 
-pub carry_along-requires-clause-way : goal.carry_along-requires-clause-way
-carry_along-requires-clause-way c =
-    rw c.deref.ensures.value (c.fall_to.ensures.way c.min-amount.result (amount_wide (goal.at.carry_along-requires-clause-way c).After-min-amount))
+pub carry_along-requires-clause-path : goal.carry_along-requires-clause-path
+carry_along-requires-clause-path c =
+    rw c.deref.ensures.value (c.update_potentials.ensures.path c.min-amount.result (amount_wide (goal.at.carry_along-requires-clause-path c).After-min-amount))
 
-lack_is : (c : After-carry_along) → c.index.result.now ≡ excess_at c.args.state.now.excess.items c.args.search.now.node
-lack_is c =
-    let same = c.fall_to.ensures.excess in
-    let b : c.args.search.now.node < length c.fall_to.new.state.excess.items = rw same (omega (arith, c.requires.kept.excess_long, c.requires.found.search_kept.node_in)) in
+deficit_is : (c : After-carry_along) → c.index.result.now ≡ excess_at c.args.state.now.excess.items c.args.search.now.node
+deficit_is c =
+    let same = c.update_potentials.ensures.excess in
+    let b : c.args.search.now.node < length c.update_potentials.new.state.excess.items = rw same (omega (arith, c.requires.kept.excess_long, c.requires.found.search_kept.node_in)) in
     get_or_read _ _ _ b c.index.ensures (pos 0) ∙ ap (λ xs. excess_at xs c.args.search.now.node) same
 
 last_reach_is : (c : After-carry_along) → c.index-2.result.now ≡ reach_at c.args.search.now.tree.items (length c.args.search.now.tree.items - 1)
@@ -55,7 +55,7 @@ last_reach_is c =
 shifted : (c : After-carry_along) → IsShifted c.args.state.now.excess.items c.carry_along.new.state.excess.items c.args.search.now.source c.args.search.now.node c.min-amount.result
 shifted c =
     let search = c.requires.found.search_kept in
-    rw (c.deref.ensures.value, search.is_tree.root, search.node_last, c.fall_to.ensures.excess) at c.carry_along.ensures.shifted
+    rw (c.deref.ensures.value, search.is_tree.root, search.node_last, c.update_potentials.ensures.excess) at c.carry_along.ensures.shifted
 
 enough : (c : After-carry_along) → pos c.min-amount.result ≤ℤ excess_at c.args.state.now.excess.items c.args.search.now.source
 enough c =
@@ -63,29 +63,29 @@ enough c =
     omega (arith, ints, wide, c.requires.found.search_kept.is_tree.root_width)
 
 little : (c : After-carry_along) → (excess_at c.args.state.now.excess.items c.args.search.now.node +ℤ pos c.min-amount.result) ≤ℤ pos 0
-little c = omega (arith, ints, lack_is c, c.min-amount.ensures, c.lack_of-lack.ensures.within)
+little c = omega (arith, ints, deficit_is c, c.min-amount.ensures, c.deficit_of-deficit.ensures.within)
 
 amount_some : (c : After-carry_along) → 0 < c.min-amount.result
 amount_some c =
     let is_tree = c.requires.found.search_kept.is_tree in
     let last = width_some _ _ _ _ _ _ is_tree (length c.args.search.now.tree.items - 1) (omega (arith, is_tree.some)) in
     let e = ap (λ (r : Reach). r.width) (last_reach_is c) in
-    omega (arith, last, e, c.min-amount.ensures, c.lack_of-lack.ensures.some)
+    omega (arith, last, e, c.min-amount.ensures, c.deficit_of-deficit.ensures.some)
 
 apart : (c : After-carry_along) → c.args.search.now.source ≢ c.args.search.now.node
 apart c same =
     let e = ap (excess_at c.args.state.now.excess.items) same in
-    absurd (omega (arith, ints, e, enough c, amount_some c, c.requires.found.lacks))
+    absurd (omega (arith, ints, e, enough c, amount_some c, c.requires.found.deficit))
 
 pub returns-clause-calm : goal.returns-clause-calm
 returns-clause-calm c =
     rw c.carry_along.ensures.potentials
     (calm_stays c.args.state.now.excess.items c.carry_along.new.state.excess.items c.args.search.now.source c.args.search.now.node c.min-amount.result (shifted c) (apart c)
-    c.args.net.now c.fall_to.new.state.potentials.items (enough c) c.requires.found.lacks (rw c.fall_to.ensures.excess at c.fall_to.ensures.calm))
+    c.args.net.now c.update_potentials.new.state.potentials.items (enough c) c.requires.found.deficit (rw c.update_potentials.ensures.excess at c.update_potentials.ensures.calm))
 
-pub returns-clause-falls : goal.returns-clause-falls
-returns-clause-falls c =
-    from_falls c.args.state.now.excess.items c.carry_along.new.state.excess.items c.args.search.now.source c.args.search.now.node c.min-amount.result (shifted c) (apart c) (amount_some c)
+pub returns-clause-decreases : goal.returns-clause-decreases
+returns-clause-decreases c =
+    from_decreases c.args.state.now.excess.items c.carry_along.new.state.excess.items c.args.search.now.source c.args.search.now.node c.min-amount.result (shifted c) (apart c) (amount_some c)
 
 pub returns-clause-rich : goal.returns-clause-rich
 returns-clause-rich c =

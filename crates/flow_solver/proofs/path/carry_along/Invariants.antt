@@ -2,7 +2,7 @@ use Rattle.std.proofs.Common.{◌≡◌, ℕ, ◌-◌, ◌<◌, ◌≤◌, lengt
 use Rattle.std.specs.Prelude.{slice_index}
 use Rattle.flow_solver.specs.Search.{reach_at}
 use Rattle.flow_solver.specs.State.{IsState, IsShifted}
-use Rattle.flow_solver.proofs.way.carry_along.Given as goal
+use Rattle.flow_solver.proofs.path.carry_along.Given as goal
 
 -- the amount came from the place to the last node, and the arcs below carry what they carried
 abbrev pub invariant-loop-place : goal.invariant-loop-place
