@@ -18,7 +18,7 @@ use Rattle.flow_solver.specs.Search.{unreached, distance_at, reach_at, no_reach,
 use Rattle.flow_solver.proofs.Searches.{IsStateOf, step_not_negative, IsLowered, IsLowered-set, IsSearchOf-lower, settled_apart}
 use Rattle.flow_solver.proofs.Bounds.{end_in, over_small}
 
-module _ (net : NetworkValue) (state : State) (source node : ℕ) (tree reaches : List Reach) (distances : List ℕ) (settled : List Bool) (waiting : List (Reverse (ℕ × ℕ)))
+module _ (net : NetworkValue) (state : State) (source node : ℕ) (tree reaches : List Reach) (distances : List ℕ) (settled : List Bool) (waiting : List (Reverse ℕ × ℕ))
     (good : IsNetwork net) (kept : IsStateOf net state) (search : IsSearchOf net state source node tree reaches distances settled waiting)
     (step : Step) (a_in : step.arc < length net.arcs) (starts : start_of (arc_at net step.arc) step.forward ≡ node)
     (room : 0 < left_on (arc_at net step.arc) (slice_index state.flow.items step.arc) step.forward)
@@ -66,7 +66,7 @@ module _ (net : NetworkValue) (state : State) (source node : ℕ) (tree reaches 
 
   pub IsSearchOf-relax : (reach : Reach) → reach.node ≡ to → reach.from ≡ length tree - 1 → reach.step ≡ step → 0 < reach.width
       → reach.width ≤ left_on (arc_at net step.arc) (slice_index state.flow.items step.arc) step.forward → reach.width ≤ (reach_at tree (length tree - 1)).width
-      → (waiting' : List (Reverse (ℕ × ℕ))) → Waits waiting' d to → ((e v : ℕ) → Waits waiting e v → Waits waiting' e v) → ((e v : ℕ) → Waits waiting' e v → Waits waiting e v ⊎ ((e ≡ d) × (v ≡ to)))
+      → (waiting' : List (Reverse ℕ × ℕ)) → Waits waiting' d to → ((e v : ℕ) → Waits waiting e v → Waits waiting' e v) → ((e v : ℕ) → Waits waiting' e v → Waits waiting e v ⊎ ((e ≡ d) × (v ≡ to)))
       → IsSearchOf net state source node tree (slice_set reaches to reach) (slice_set distances to d) settled waiting'
   IsSearchOf-relax reach node_is from_is step_is some left narrow waiting' added stays only =
       let small = over_small net state source node tree reaches distances settled waiting good kept search step.arc step.forward a_in starts in

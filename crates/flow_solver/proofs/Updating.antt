@@ -15,7 +15,7 @@ use Rattle.flow_solver.proofs.Searches.{IsStateOf, step_not_negative, settled_ap
 use Rattle.flow_solver.proofs.Settling.{tree_short}
 use Rattle.flow_solver.proofs.Bounds.{start_in, end_in}
 
-module _ (net : NetworkValue) (state : State) (source node : ℕ) (tree reaches : List Reach) (distances : List ℕ) (settled : List Bool) (waiting : List (Reverse (ℕ × ℕ)))
+module _ (net : NetworkValue) (state : State) (source node : ℕ) (tree reaches : List Reach) (distances : List ℕ) (settled : List Bool) (waiting : List (Reverse ℕ × ℕ))
     (good : IsNetwork net) (kept : IsStateOf net state) (search : IsSearchOf net state source node tree reaches distances settled waiting)
     (lacks : excess_at state.excess.items node <ℤ pos 0) (calm : AreCalm net state.excess.items state.potentials.items)
     (potentials : List ℤ) (updated : AreUpdated state.potentials.items potentials distances (distance_at distances node)) where
@@ -123,7 +123,7 @@ module _ (net : NetworkValue) (state : State) (source node : ℕ) (tree reaches 
       }
 
 -- what is updated on the tree is updated everywhere, since no other node is nearer than the last one
-pub AreUpdated-from_tree : (net : NetworkValue) (state : State) (source node : ℕ) (tree reaches : List Reach) (distances : List ℕ) (settled : List Bool) (waiting : List (Reverse (ℕ × ℕ)))
+pub AreUpdated-from_tree : (net : NetworkValue) (state : State) (source node : ℕ) (tree reaches : List Reach) (distances : List ℕ) (settled : List Bool) (waiting : List (Reverse ℕ × ℕ))
     → IsSearchOf net state source node tree reaches distances settled waiting → length state.potentials.items ≡ net.nodes → (potentials : List ℤ) → length potentials ≡ length state.potentials.items
     → ((i : ℕ) → i < length tree → potential_at potentials (reach_at tree i).node ≡ potential_at state.potentials.items (reach_at tree i).node -ℤ pos (distance_at distances node - distance_at distances (reach_at tree i).node))
     → ((v : ℕ) → ((i : ℕ) → i < length tree → (reach_at tree i).node ≢ v) → potential_at potentials v ≡ potential_at state.potentials.items v)

@@ -71,7 +71,7 @@ pub record IsTree (net : NetworkValue) (state : State) (source : ℕ) (tree : Li
   pub near : (u v : ℕ) → is_settled settled u ≡ true → is_settled settled v ≡ true → height_at state distances u ≤ℤ (height_at state distances v +ℤ pos (8000000000 * (length tree - 1)))
 
 -- the search after the node was settled, and before all its steps are relaxed
-pub record IsSearchOf (net : NetworkValue) (state : State) (source node : ℕ) (tree reaches : List Reach) (distances : List ℕ) (settled : List Bool) (waiting : List (Reverse (ℕ × ℕ))) : Type 0 where
+pub record IsSearchOf (net : NetworkValue) (state : State) (source node : ℕ) (tree reaches : List Reach) (distances : List ℕ) (settled : List Bool) (waiting : List (Reverse ℕ × ℕ)) : Type 0 where
   pub is_tree : IsTree net state source tree distances settled
   pub distances_long : length distances ≡ net.nodes
   pub reaches_long : length reaches ≡ net.nodes
