@@ -8,9 +8,10 @@ use Rattle.match_rules.specs.Rules.{RulesValue, AreRules}
 use Rattle.match_rules.specs.Groups.{group_count, paper_of_group}
 use Rattle.match_rules.specs.Answers.{IsWithin, ArePrices, PricesMatch, most_price}
 use Rattle.match_rules.proofs.GroupLaws.{group_count_few}
+use Rattle.bounded_network.specs.declared.network.TheConstants.{MAX_NODES}
 use Rattle.bounded_network.specs.Network.{potential_at}
 use Rattle.bounded_network.specs.Compile.{listed, hub, group_node, reviewer_node, node_count}
-use Rattle.bounded_network.specs.Back.{AreWithinCosts, prices_in, paper_price_in, group_price_in, reviewer_price_in}
+use Rattle.bounded_network.specs.Back.{AreWithinCosts, IsNear, prices_in, paper_price_in, group_price_in, reviewer_price_in}
 use Rattle.bounded_network.proofs.Parts.{length-listed}
 
 -- what holds of each holds of all that are listed
@@ -18,11 +19,7 @@ all-listed : {X : Type 0} → (P : X → Type 0) (n : ℕ) (f : ℕ → X) → (
 all-listed P zero f each = All-nil P
 all-listed P (suc n) f each = All-push P (listed n f) (f n) (all-listed P n f (λ i lt. each i (omega arith))) (each n (omega arith))
 
--- potentials are far from the ends of 64 bits
-abbrev pub IsNear : ℤ → Type 0
-IsNear z = IsWithin 2500000000000000 z
-
-pub node_count-few : (rules : RulesValue) → AreRules rules → node_count rules ≤ 253001
+pub node_count-few : (rules : RulesValue) → AreRules rules → node_count rules ≤ MAX_NODES
 node_count-few rules are = omega (arith, group_count_few rules, are.papers.few, are.reviewers.few, are.pairs.few)
 
 pub potential-near : (rules : RulesValue) (potentials : List ℤ) (v : ℕ) → AreRules rules → AreWithinCosts rules potentials → IsNear (potential_at potentials v)

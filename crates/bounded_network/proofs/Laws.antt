@@ -82,7 +82,8 @@ mark_weight marked = if marked then pos 1 else pos 0
 abbrev pub mark_bound : Bool → Bool → ℕ → ℕ → ℤ
 mark_bound tail head floor room = pos (when (head && not tail) floor) -ℤ pos (when (tail && not head) room)
 
-bound_at_arc : (tail head : Bool) (x floor room : ℕ) → floor ≤ x → x ≤ room → mark_bound tail head floor room ≤ℤ (pos x *ℤ (mark_weight head -ℤ mark_weight tail))
+-- an amount within its bounds gives to the marks at least what its arc does
+pub bound_at_arc : (tail head : Bool) (x floor room : ℕ) → floor ≤ x → x ≤ room → mark_bound tail head floor room ≤ℤ (pos x *ℤ (mark_weight head -ℤ mark_weight tail))
 bound_at_arc true true x floor room fx xr = omega (arith, ints, *ℤ-zero (pos x))
 bound_at_arc true false x floor room fx xr = omega (arith, ints, scale--ℤ x (pos 0) (pos 1), *ℤ-zero (pos x))
 bound_at_arc false true x floor room fx xr = omega (arith, ints)

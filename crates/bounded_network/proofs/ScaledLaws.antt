@@ -2,7 +2,6 @@
 use Rattle.std.proofs.Common.{◌≡◌, ℕ, zero, suc, ◌+◌, ◌-◌, ◌*◌, ◌/◌, ◌%◌, ◌<◌, ◌≤◌, min, Bool, true, false, not, ◌&&◌, List, length, refl, ◌∙◌, arith}
 use Rattle.std.specs.Prelude.{ℤ, pos, ◌-ℤ◌, ◌*ℤ◌, ◌≤ℤ◌, slice_index}
 use Rattle.std.proofs.lemmas.Int.{ints}
-use Rattle.std.proofs.Math.IntN.{*ℤ-zero}
 use Rattle.std.proofs.Math.Nat.{div-add-mod}
 use Rattle.match_rules.specs.Rules.{RulesValue, AreRules}
 use Rattle.match_rules.specs.Sums.{sum_below, count_below, when}
@@ -11,17 +10,10 @@ use Rattle.bounded_network.specs.Network.{NetworkValue, IsNetwork, AreViolated, 
 use Rattle.bounded_network.specs.Scaled.{IsScaled}
 use Rattle.bounded_network.specs.Spans.{rounded, rounded_spans}
 use Rattle.bounded_network.specs.Compile.{network_of, flow_of}
-use Rattle.bounded_network.proofs.Scaled.{scale--ℤ}
 use Rattle.bounded_network.proofs.Sums.{sum_below-le, sum_below-zero, sum_below--ℤ, sum_below-pos}
-use Rattle.bounded_network.proofs.Laws.{rises-are-excesses, mark_weight, mark_bound}
+use Rattle.bounded_network.proofs.Laws.{rises-are-excesses, mark_weight, bound_at_arc}
 use Rattle.bounded_network.proofs.Compiled.{each_arc, flow-of_pair, flow-of_paper, flow-of_group, flow-of_reviewer, flow-passes}
 use Rattle.bounded_network.proofs.Nodes.{balanced-of_passes}
-
-bound_at_arc : (tail head : Bool) (x floor room : ℕ) → floor ≤ x → x ≤ room → mark_bound tail head floor room ≤ℤ (pos x *ℤ (mark_weight head -ℤ mark_weight tail))
-bound_at_arc true true x floor room fx xr = omega (arith, ints, *ℤ-zero (pos x))
-bound_at_arc true false x floor room fx xr = omega (arith, ints, scale--ℤ x (pos 0) (pos 1), *ℤ-zero (pos x))
-bound_at_arc false true x floor room fx xr = omega (arith, ints)
-bound_at_arc false false x floor room fx xr = omega (arith, ints, *ℤ-zero (pos x))
 
 count-scaled : (n scale : ℕ) (test : ℕ → Bool) (f : ℕ → ℕ) → count_below n (λ i. when (test i) (scale * f i)) ≡ scale * count_below n (λ i. when (test i) (f i))
 count-scaled zero scale test f = omega arith

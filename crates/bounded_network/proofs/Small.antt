@@ -1,6 +1,6 @@
 -- The network of rules is within the limits of a network.
 use Rattle.std.proofs.Common.{◌≡◌, ℕ, suc, ◌+◌, ◌-◌, ◌*◌, ◌/◌, ◌%◌, ◌^◌, ◌<◌, ◌≤◌, ◌⊎◌, Bool, true, false, List, length, sym, ◌∙◌, arith, inl, inr}
-use Rattle.std.specs.Prelude.{pos, negsuc, ◌≤ℤ◌, ◌||◌, slice_index}
+use Rattle.std.specs.Prelude.{pos, neg_ℤ, ◌≤ℤ◌, ◌||◌, slice_index}
 use Rattle.std.proofs.lemmas.Int.{ints}
 use Rattle.std.proofs.lemmas.Bool.{eq-eqb}
 use Rattle.std.proofs.Math.Nat.{div-add-mod}
@@ -13,6 +13,7 @@ use Rattle.match_rules.specs.Assignments.{keeps, lets_pass, cap_under}
 use Rattle.match_rules.specs.SharesFit.{paper_shares, group_shares, reviewer_shares}
 use Rattle.match_rules.specs.Sums.{when}
 use Rattle.match_rules.proofs.GroupLaws.{group_count_few}
+use Rattle.bounded_network.specs.declared.network.TheConstants.{MAX_ROOM, MAX_COST}
 use Rattle.bounded_network.specs.declared.network.Arc.{Arc}
 use Rattle.bounded_network.specs.declared.spans.Span.{Span}
 use Rattle.bounded_network.specs.Network.{IsNetwork, IsArc}
@@ -26,7 +27,7 @@ use Rattle.bounded_network.proofs.Nodes.{tail-below, group-paper-below}
 -- a floor of at most the room, and a room within the limit
 pub record IsSmall (bounds : Span) : Type 0 where
   pub ordered : bounds.floor ≤ bounds.room
-  pub room : bounds.room ≤ 2 ^ 50
+  pub room : bounds.room ≤ MAX_ROOM
 
 -- bounds that a network may have
 pub record AreSmall (rules : RulesValue) (spans : Spans) : Type 0 where
@@ -34,8 +35,8 @@ pub record AreSmall (rules : RulesValue) (spans : Spans) : Type 0 where
   pub papers : (p : ℕ) → p < length rules.papers → IsSmall (spans.papers p)
   pub of_groups : (g : ℕ) → g < group_count rules → IsSmall (spans.of_groups g)
   pub reviewers : (r : ℕ) → r < length rules.reviewers → IsSmall (spans.reviewers r)
-  pub cost_low : (e : ℕ) → e < length rules.pairs → negsuc 7999999999 ≤ℤ spans.cost e
-  pub cost_high : (e : ℕ) → e < length rules.pairs → spans.cost e ≤ℤ pos 8000000000
+  pub cost_low : (e : ℕ) → e < length rules.pairs → neg_ℤ MAX_COST ≤ℤ spans.cost e
+  pub cost_high : (e : ℕ) → e < length rules.pairs → spans.cost e ≤ℤ MAX_COST
 
 pub network-of_small : (rules : RulesValue) (spans : Spans) → AreRules rules → AreSmall rules spans → IsNetwork (network_of rules spans)
 network-of_small rules spans are small =
@@ -100,7 +101,7 @@ pub when-at_most : (b : Bool) (x : ℕ) → when b x ≤ x
 when-at_most true x = omega arith
 when-at_most false x = omega arith
 
-scaled-small : (tickets x : ℕ) → tickets ≡ MOST_TICKETS → x ≤ 1500 → tickets * x ≤ 2 ^ 50
+scaled-small : (tickets x : ℕ) → tickets ≡ MOST_TICKETS → x ≤ 1500 → tickets * x ≤ MAX_ROOM
 scaled-small tickets x is few = rw is (omega arith)
 
 scaled-ordered : (tickets x y : ℕ) → tickets ≡ MOST_TICKETS → x ≤ y → tickets * x ≤ tickets * y
@@ -132,13 +133,13 @@ rounded-at_most left amount some =
     let whole2 : suc l * q + r ≡ amount = rw (sym e) whole in
     omega arith
 
-pub rounded-small : (left amount : ℕ) → 1 ≤ left → amount ≤ 2 ^ 50 → IsSmall (rounded left amount)
+pub rounded-small : (left amount : ℕ) → 1 ≤ left → amount ≤ MAX_ROOM → IsSmall (rounded left amount)
 rounded-small left amount some few = record {
   ordered = omega arith;
   room = omega (arith, rounded-at_most left amount some);
 }
 
-pub sum-small : (rules : RulesValue) (shares : List ℕ) (test : ℕ → Bool) → AreRules rules → AreWords shares → shares_where rules shares test ≤ 2 ^ 50
+pub sum-small : (rules : RulesValue) (shares : List ℕ) (test : ℕ → Bool) → AreRules rules → AreWords shares → shares_where rules shares test ≤ MAX_ROOM
 sum-small rules shares test are words =
     let most = count_below-at_most (length rules.pairs) (λ e. when (test e) (slice_index shares e)) 4294967296
     (λ e lt. omega (arith, when-at_most (test e) (slice_index shares e), words e)) in

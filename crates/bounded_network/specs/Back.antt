@@ -14,6 +14,10 @@ use Rattle.bounded_network.specs.Compile.{listed, group_node, reviewer_node, hub
 abbrev pub AreWithinCosts : RulesValue → List ℤ → Type 0
 AreWithinCosts rules potentials = (v : ℕ) → IsWithin (8000000000 * node_count rules) (potential_at potentials v)
 
+-- a potential that is far from the ends of 64 bits
+abbrev pub IsNear : ℤ → Type 0
+IsNear z = IsWithin 2500000000000000 z
+
 -- a paper's price is what the potential rises from the hub to the paper
 abbrev pub paper_price_in : RulesValue → List ℤ → ℕ → ℤ
 paper_price_in rules potentials p = potential_at potentials p -ℤ potential_at potentials (hub rules)

@@ -1,7 +1,8 @@
 -- Networks, circulations, their costs, potentials, and the marks that show that there is no circulation.
-use Rattle.std.specs.Prelude.{ℕ, ◌≡◌, ◌<◌, ◌≤◌, ◌^◌, ◌==◌, ◌&&◌, not, Bool, false, List, length, slice_index, slice_index_or, ℤ, pos, negsuc, ◌+ℤ◌, ◌-ℤ◌, ◌*ℤ◌, ◌≤ℤ◌}
+use Rattle.std.specs.Prelude.{ℕ, ◌≡◌, ◌<◌, ◌≤◌, ◌==◌, ◌&&◌, not, Bool, false, List, length, slice_index, slice_index_or, ℤ, pos, neg_ℤ, ◌+ℤ◌, ◌-ℤ◌, ◌*ℤ◌, ◌≤ℤ◌}
 use Rattle.match_rules.specs.Sums.{sum_below, count_below, when}
 use Rattle.bounded_network.specs.declared.network.Arc.{Arc}
+use Rattle.bounded_network.specs.declared.network.TheConstants.{MAX_NODES, MAX_ARCS, MAX_ROOM, MAX_COST}
 
 -- what a network holds
 pub record NetworkValue : Type 0 where
@@ -13,9 +14,9 @@ pub record IsArc (nodes : ℕ) (arc : Arc) : Type 0 where
   pub tail : arc.tail < nodes
   pub head : arc.head < nodes
   pub floor : arc.floor ≤ arc.room
-  pub room : arc.room ≤ 2 ^ 50
-  pub cost_low : negsuc 7999999999 ≤ℤ arc.cost
-  pub cost_high : arc.cost ≤ℤ pos 8000000000
+  pub room : arc.room ≤ MAX_ROOM
+  pub cost_low : neg_ℤ MAX_COST ≤ℤ arc.cost
+  pub cost_high : arc.cost ≤ℤ MAX_COST
 
 abbrev pub no_arc : Arc
 no_arc = record { tail = 0; head = 0; floor = 0; room = 0; cost = pos 0 }
@@ -26,8 +27,8 @@ arc_at net a = slice_index_or net.arcs a no_arc
 
 -- a network within the limits
 pub record IsNetwork (net : NetworkValue) : Type 0 where
-  pub few_nodes : net.nodes ≤ 253001
-  pub few_arcs : length net.arcs ≤ 503000
+  pub few_nodes : net.nodes ≤ MAX_NODES
+  pub few_arcs : length net.arcs ≤ MAX_ARCS
   pub each : (a : ℕ) → a < length net.arcs → IsArc net.nodes (arc_at net a)
 
 -- what enters the node

@@ -10,7 +10,7 @@ ghost use Rattle.bounded_network.specs.Totals.{AreTotals};
 use crate::bounds::{group_span, pair_span, paper_span, reviewer_span};
 use crate::layout::{group_node_of, hub_of, reviewer_node_of, tail};
 use crate::network::Arc;
-use crate::spans::Amounts;
+use crate::spans::{Amounts, Span};
 use crate::totals::Totals;
 use match_rules::{Rules, Sieve};
 use std::alloc::{AllocError, Global};
@@ -26,74 +26,20 @@ fn cost(rules: &Rules, sieve: Sieve, amounts: Amounts, e: u32) -> i64
     }
 }
 
-// The arc of a pair.
-fn of_pair(rules: &Rules, sieve: Sieve, amounts: Amounts, e: u32) -> Arc
-    requires divides { CanDivide rules.now amounts }
-    requires within { e < length rules.now.pairs }
-    ensures { result ≡ pair_arc rules.now (spans_of rules.now sieve amounts.entry) e }
+// The arc between the nodes with the bounds and the cost.
+fn arc(tail: u32, head: u32, span: Span, cost: i64) -> Arc
+    ensures { result ≡ record { tail = tail; head = head; floor = span.floor; room = span.room; cost = cost } }
 {
-    let span = pair_span(rules, sieve, amounts, e);
     Arc {
-        tail: tail(rules, e),
-        head: reviewer_node_of(rules, rules.pairs()[e as usize].reviewer),
+        tail,
+        head,
         floor: span.floor,
         room: span.room,
-        cost: cost(rules, sieve, amounts, e),
+        cost,
     }
 }
 
-// The arc of a paper.
-fn of_paper(rules: &Rules, sieve: Sieve, amounts: Amounts, totals: &Totals, p: u32) -> Arc
-    requires divides { CanDivide rules.now amounts }
-    requires totals { AreTotals rules.now amounts totals.now }
-    requires within { p < length rules.now.papers }
-    ensures { result ≡ paper_arc rules.now (spans_of rules.now sieve amounts.entry) p }
-{
-    let span = paper_span(rules, sieve, amounts, totals, p);
-    Arc {
-        tail: hub_of(rules),
-        head: p,
-        floor: span.floor,
-        room: span.room,
-        cost: 0,
-    }
-}
-
-// The arc of a group.
-fn of_group(rules: &Rules, sieve: Sieve, amounts: Amounts, totals: &Totals, g: u32) -> Arc
-    requires divides { CanDivide rules.now amounts }
-    requires totals { AreTotals rules.now amounts totals.now }
-    requires within { g < group_count rules.now }
-    ensures { result ≡ group_arc rules.now (spans_of rules.now sieve amounts.entry) g }
-{
-    let span = group_span(rules, sieve, amounts, totals, g);
-    Arc {
-        tail: rules.group_at(g).paper,
-        head: group_node_of(rules, g),
-        floor: span.floor,
-        room: span.room,
-        cost: 0,
-    }
-}
-
-// The arc of a reviewer.
-fn of_reviewer(rules: &Rules, sieve: Sieve, amounts: Amounts, totals: &Totals, r: u32) -> Arc
-    requires divides { CanDivide rules.now amounts }
-    requires totals { AreTotals rules.now amounts totals.now }
-    requires within { r < length rules.now.reviewers }
-    ensures { result ≡ reviewer_arc rules.now (spans_of rules.now sieve amounts.entry) r }
-{
-    let span = reviewer_span(rules, sieve, amounts, totals, r);
-    Arc {
-        tail: reviewer_node_of(rules, r),
-        head: hub_of(rules),
-        floor: span.floor,
-        room: span.room,
-        cost: 0,
-    }
-}
-
-// Puts the arcs of the pairs behind the others.
+// Adds the arcs of the pairs.
 fn push_pairs(
     arcs: &mut Vec<Arc>,
     rules: &Rules,
@@ -104,12 +50,20 @@ fn push_pairs(
     ensures { IfOk result (λ done. arcs.new.items ≡ arcs.old.items ++ listed (length rules.now.pairs) (pair_arc rules.now (spans_of rules.now sieve amounts.entry))) }
 {
     for e in 0..rules.pairs().len() as u32 {
-        arcs.push(of_pair(rules, sieve, amounts, e))?;
+        let span = pair_span(rules, sieve, amounts, e);
+        let reviewer = rules.pairs()[e as usize].reviewer;
+        let cost = cost(rules, sieve, amounts, e);
+        arcs.push(arc(
+            tail(rules, e),
+            reviewer_node_of(rules, reviewer),
+            span,
+            cost,
+        ))?;
     }
     Ok(())
 }
 
-// Puts the arcs of the papers behind the others.
+// Adds the arcs of the papers.
 fn push_papers(
     arcs: &mut Vec<Arc>,
     rules: &Rules,
@@ -122,12 +76,13 @@ fn push_papers(
     ensures { IfOk result (λ done. arcs.new.items ≡ arcs.old.items ++ listed (length rules.now.papers) (paper_arc rules.now (spans_of rules.now sieve amounts.entry))) }
 {
     for p in 0..rules.papers().len() as u32 {
-        arcs.push(of_paper(rules, sieve, amounts, totals, p))?;
+        let span = paper_span(rules, sieve, amounts, totals, p);
+        arcs.push(arc(hub_of(rules), p, span, 0))?;
     }
     Ok(())
 }
 
-// Puts the arcs of the groups behind the others.
+// Adds the arcs of the groups.
 fn push_groups(
     arcs: &mut Vec<Arc>,
     rules: &Rules,
@@ -140,12 +95,13 @@ fn push_groups(
     ensures { IfOk result (λ done. arcs.new.items ≡ arcs.old.items ++ listed (group_count rules.now) (group_arc rules.now (spans_of rules.now sieve amounts.entry))) }
 {
     for g in 0..rules.group_count() {
-        arcs.push(of_group(rules, sieve, amounts, totals, g))?;
+        let span = group_span(rules, sieve, amounts, totals, g);
+        arcs.push(arc(rules.group_at(g).paper, group_node_of(rules, g), span, 0))?;
     }
     Ok(())
 }
 
-// Puts the arcs of the reviewers behind the others.
+// Adds the arcs of the reviewers.
 fn push_reviewers(
     arcs: &mut Vec<Arc>,
     rules: &Rules,
@@ -158,13 +114,13 @@ fn push_reviewers(
     ensures { IfOk result (λ done. arcs.new.items ≡ arcs.old.items ++ listed (length rules.now.reviewers) (reviewer_arc rules.now (spans_of rules.now sieve amounts.entry))) }
 {
     for r in 0..rules.reviewers().len() as u32 {
-        arcs.push(of_reviewer(rules, sieve, amounts, totals, r))?;
+        let span = reviewer_span(rules, sieve, amounts, totals, r);
+        arcs.push(arc(reviewer_node_of(rules, r), hub_of(rules), span, 0))?;
     }
     Ok(())
 }
 
-/// All arcs: those of the pairs, then of the papers, the groups and the
-/// reviewers.
+/// All arcs: those of the pairs, then of the papers, the groups and the reviewers.
 pub fn arcs_of(
     alloc: Global,
     rules: &Rules,

@@ -1,12 +1,12 @@
 // What a circulation, potentials and marks of the network of rules mean for the rules.
 
 ghost use Rattle.std.specs.Prelude.{◌≡◌, ℕ, List, ◌<◌, ◌≤◌, length, IfOk, ◌-ℤ◌};
-ghost use Rattle.match_rules.specs.Answers.{IsWithin, CutMatches, PricesMatch};
+ghost use Rattle.match_rules.specs.Answers.{CutMatches, PricesMatch};
 ghost use Rattle.match_rules.specs.Evidence.{bound, need, room, Violated};
 ghost use Rattle.match_rules.specs.Groups.{group_count};
 ghost use Rattle.match_rules.specs.Rules.{AreRules};
 ghost use Rattle.match_rules.specs.SharesFit.{SharesFit, shares_score};
-ghost use Rattle.bounded_network.specs.Back.{AreWithinCosts, paper_price_in, group_price_in, reviewer_price_in, prices_in, places_where, is_apart, cut_in};
+ghost use Rattle.bounded_network.specs.Back.{AreWithinCosts, IsNear, paper_price_in, group_price_in, reviewer_price_in, prices_in, places_where, is_apart, cut_in};
 ghost use Rattle.bounded_network.specs.Compile.{listed, node_count, hub, group_node, reviewer_node, network_of, amounts_in};
 ghost use Rattle.bounded_network.specs.Network.{IsCirculation, AreOptimal, AreViolated, floors_into, rooms_out_of, potential_at, is_marked};
 ghost use Rattle.bounded_network.specs.Spans.{ticket_spans};
@@ -15,8 +15,7 @@ use crate::layout::{group_node_of, hub_of, reviewer_node_of};
 use match_rules::{Cut, Places, PriceList, Prices, Rules, Shares, Side, Sieve};
 use std::alloc::{AllocError, Global};
 
-/// The shares of the pairs in a circulation of the network of the same rules
-/// and sieve, compiled with `Tickets`.
+/// The shares of the pairs in a circulation of the network of the same rules and sieve, compiled with `Tickets`.
 pub fn shares_of(
     alloc: Global,
     rules: &Rules,
@@ -39,7 +38,7 @@ pub fn shares_of(
 fn rise(potentials: &[i64], from: u32, to: u32) -> i64
     requires from { from < length potentials.now }
     requires to { to < length potentials.now }
-    requires near { (v : ℕ) → IsWithin 2500000000000000 (potential_at potentials.now v) }
+    requires near { (v : ℕ) → IsNear (potential_at potentials.now v) }
     ensures { result ≡ potential_at potentials.now to -ℤ potential_at potentials.now from }
 {
     potentials[to as usize] - potentials[from as usize]
@@ -93,10 +92,9 @@ fn reviewer_prices(alloc: Global, rules: &Rules, potentials: &[i64]) -> Result<V
     Ok(prices)
 }
 
-/// The prices of potentials of the network of the same rules and sieve,
-/// compiled with `Tickets`: what the potential rises from the hub to a paper,
-/// from its paper to a group, and from a reviewer to the hub. Their bound is
-/// the score of every circulation that is optimal at the potentials.
+/// The prices of potentials of the network of the same rules and sieve, compiled with `Tickets`: what the potential rises
+/// from the hub to a paper, from its paper to a group, and from a reviewer to the hub. Their bound is the score of every
+/// circulation that is optimal at the potentials.
 pub fn prices_of(
     alloc: Global,
     rules: &Rules,
@@ -178,11 +176,9 @@ fn reviewers_across(alloc: Global, rules: &Rules, marks: &[bool]) -> Result<Vec<
     Ok(places)
 }
 
-/// The cut of violated marks of the network of the same rules and sieve,
-/// compiled with `Tickets`: the papers, groups and reviewers on the other side
-/// than the hub, into them where they are the marked ones, and out of them
-/// where the hub is marked. What has to pass it is the floors that enter the
-/// marks, and what may pass it the rooms that leave them.
+/// The cut of violated marks of the network of the same rules and sieve, compiled with `Tickets`: the papers, groups and
+/// reviewers on the other side than the hub, into them where they are the marked ones, and out of them where the hub is
+/// marked. What has to pass it is the floors that enter the marks, and what may pass it the rooms that leave them.
 pub fn cut_of(alloc: Global, rules: &Rules, sieve: Sieve, marks: &[bool]) -> Result<Cut, AllocError>
     requires long { length marks.now ≡ node_count rules.now }
     requires broken { AreViolated (network_of rules.now (ticket_spans rules.now sieve)) marks.now }

@@ -13,19 +13,16 @@ use crate::totals::totals_of;
 use match_rules::{Rules, Sieve};
 use std::alloc::{AllocError, Global};
 
-/// The network of rules. Its nodes are the papers, the groups, the reviewers
-/// and a hub, in this order. Its arcs are the pairs, from the pair's group, or
-/// its paper where it is in no group, to its reviewer; then, from the hub to
-/// each paper; from its paper to each group; and from each reviewer to the hub.
-/// So a circulation is one amount for each pair, and the sums of these.
+/// The network of rules. Its nodes are the papers, the groups, the reviewers and a hub, in this order. Its arcs are the
+/// pairs, from the pair's group, or its paper where it is in no group, to its reviewer; then, from the hub to each paper;
+/// from its paper to each group; and from each reviewer to the hub. So a circulation is one amount for each pair, and the
+/// sums of these.
 ///
-/// With `Tickets` the circulations are the shares that fit the rules under the
-/// sieve. With `Rounded` they are the whole assignments in which everything has
-/// its amount in the shares, divided by the tickets that are left and rounded
-/// down or up; there always is one.
+/// With `Tickets` the circulations are the shares that fit the rules under the sieve. With `Rounded` they are counts: each
+/// pair, paper, group and reviewer has its amount in the shares, divided by the tickets that are left and rounded down or
+/// up. No marks are violated there.
 ///
-/// Time is linear in pairs, papers, groups and reviewers, and memory is that of
-/// the arcs, beside the sums of `Rounded`.
+/// Time is linear in pairs, papers, groups and reviewers, and memory is that of the arcs, beside the sums of `Rounded`.
 pub fn compile(
     alloc: Global,
     rules: &Rules,

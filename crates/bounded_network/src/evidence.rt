@@ -13,8 +13,7 @@ pub fn optimal_is_cheapest(network: &Network)
     let _arcs = network.arcs();
 }
 
-/// A law: where marks are violated there is no circulation, and nothing
-/// balances between any multiple of the bounds.
+/// A law: where marks are violated there is no circulation, and nothing balances between any multiple of the bounds.
 pub fn violated_excludes(network: &Network)
     ensures none { (marks : List Bool) (flow : List ℕ) → AreViolated network.now marks → ¬ (IsCirculation network.now flow) }
     ensures any_scale { (marks : List Bool) (scale : ℕ) (flow : List ℕ) → AreViolated network.now marks → 1 ≤ scale → ¬ (IsScaled network.now scale flow) }

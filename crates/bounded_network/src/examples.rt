@@ -1,5 +1,4 @@
-// Worked examples, computed over the definitions. The function has an empty
-// body: its clauses are the examples.
+// Worked examples, computed over the definitions. The function has an empty body: its clauses are the examples.
 
 ghost use Rattle.std.specs.Prelude.{◌≡◌, [], ◌∷◌, true, false, pos, neg_ℤ, length};
 ghost use Rattle.match_rules.specs.declared.answer.Sieve.TheVariants.{All as EveryPair, Above};

@@ -3,6 +3,7 @@
 ghost use Rattle.std.specs.Prelude.{◌≡◌, ◌<◌, length};
 ghost use Rattle.match_rules.specs.Groups.{group_count};
 ghost use Rattle.match_rules.specs.Rules.{AreRules};
+ghost use Rattle.bounded_network.specs.declared.network.TheConstants.{MAX_NODES};
 ghost use Rattle.bounded_network.specs.Compile.{group_node, reviewer_node, hub, tail_of};
 
 use match_rules::Rules;
@@ -11,7 +12,7 @@ use match_rules::Rules;
 pub fn group_node_of(rules: &Rules, group: u32) -> u32
     requires { group < group_count rules.now }
     ensures value { result ≡ group_node rules.now group }
-    ensures small { result < 253001 }
+    ensures small { result < MAX_NODES }
 {
     rules.papers().len() as u32 + group
 }
@@ -20,7 +21,7 @@ pub fn group_node_of(rules: &Rules, group: u32) -> u32
 pub fn reviewer_node_of(rules: &Rules, reviewer: u32) -> u32
     requires { reviewer < length rules.now.reviewers }
     ensures value { result ≡ reviewer_node rules.now reviewer }
-    ensures small { result < 253001 }
+    ensures small { result < MAX_NODES }
 {
     rules.papers().len() as u32 + rules.group_count() + reviewer
 }
@@ -28,7 +29,7 @@ pub fn reviewer_node_of(rules: &Rules, reviewer: u32) -> u32
 // The hub, which is the last node.
 pub fn hub_of(rules: &Rules) -> u32
     ensures value { result ≡ hub rules.now }
-    ensures small { result < 253001 }
+    ensures small { result < MAX_NODES }
     ensures kept { AreRules rules.now }
 {
     rules.papers().len() as u32 + rules.group_count() + rules.reviewers().len() as u32

@@ -16,8 +16,6 @@ mod layout;
 mod limits;
 mod network;
 mod spans;
-#[cfg(test)]
-mod tests;
 mod totals;
 
 pub use back::{cut_of, prices_of, shares_of};

@@ -74,6 +74,3 @@ impl Network {
         self.arcs.as_slice()
     }
 }
-
-#[cfg(test)]
-mod tests;

@@ -16,9 +16,8 @@ pub struct Span {
 pub enum Amounts<'a> {
     /// Shares of the pairs, counted in tickets; the cost of one is minus its score.
     Tickets,
-    /// Counts of one whole assignment: the amount of each pair, paper, group
-    /// and reviewer in the shares, divided by the tickets that are left and
-    /// rounded down or up. Nothing has a cost.
+    /// Counts of one whole assignment: the amount of each pair, paper, group and reviewer in the shares, divided by the
+    /// tickets that are left and rounded down or up. Nothing has a cost.
     Rounded {
         /// The tickets of each pair that are still to be given.
         shares: &'a Shares,

@@ -3,6 +3,7 @@
 ghost use Rattle.std.specs.Prelude.{◌≡◌, ◌+◌, ◌<◌, ◌≤◌, length, IfOk, slice_index, slice_set};
 ghost use Rattle.match_rules.specs.Groups.{group_count};
 ghost use Rattle.match_rules.specs.SharesFit.{paper_shares, group_shares, reviewer_shares};
+ghost use Rattle.bounded_network.specs.declared.network.TheConstants.{MAX_ROOM};
 ghost use Rattle.bounded_network.specs.Compile.{listed};
 ghost use Rattle.bounded_network.specs.Spans.{CanDivide};
 ghost use Rattle.bounded_network.specs.Totals.{AreWords, AreTotals};
@@ -11,8 +12,7 @@ use crate::spans::Amounts;
 use match_rules::Rules;
 use std::alloc::{AllocError, Global};
 
-/// The sums of the papers, groups and reviewers by their places, where
-/// amounts are rounded; nothing for tickets.
+/// The sums of the papers, groups and reviewers by their places, where amounts are rounded; nothing for tickets.
 #[derive(Drop)]
 pub struct Totals {
     pub papers: Vec<u64>,
@@ -23,7 +23,7 @@ pub struct Totals {
 // Adds an amount to one sum.
 fn add(totals: &mut Vec<u64>, at: usize, amount: u32)
     requires within { at < length totals.old.items }
-    requires fits { slice_index totals.old.items at ≤ 1125899906842624 }
+    requires fits { slice_index totals.old.items at ≤ MAX_ROOM }
     ensures { totals.new.items ≡ slice_set totals.old.items at (slice_index totals.old.items at + amount) }
 {
     totals[at] += u64::from(amount);

@@ -42,7 +42,7 @@ over_settled_small net state source tree distances settled good kept is_tree u u
     omega (arith, ints, near, short, cost.high, at_start, p.high, q.low, root, few)
 
 -- so it is from the last settled node
-pub over_small : (net : NetworkValue) (state : State) (source node : ℕ) (tree reaches : List Reach) (distances : List ℕ) (settled : List Bool) (waiting : List (Reverse (ℕ × ℕ)))
+pub over_small : (net : NetworkValue) (state : State) (source node : ℕ) (tree reaches : List Reach) (distances : List ℕ) (settled : List Bool) (waiting : List (Reverse ℕ × ℕ))
     → IsNetwork net → IsStateOf net state → IsSearchOf net state source node tree reaches distances settled waiting
     → (a : ℕ) (forward : Bool) → a < length net.arcs → start_of (arc_at net a) forward ≡ node
     → (pos (distance_at distances node) +ℤ step_reduced (arc_at net a) forward state.potentials.items) <ℤ pos (2 ^ 60)

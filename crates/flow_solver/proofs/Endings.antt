@@ -19,11 +19,11 @@ abbrev pub worth : ℤ → ℕ
 worth (pos n) = n
 worth (negsuc n) = 0
 
-pub worth-falls : (old new : ℤ) → new <ℤ old → pos 0 ≤ℤ new → worth new < worth old
-worth-falls (pos m) (pos n) less rich = omega (arith, ints)
-worth-falls (pos m) (negsuc n) less rich = absurd (omega (arith, ints))
-worth-falls (negsuc m) (pos n) less rich = absurd (omega (arith, ints))
-worth-falls (negsuc m) (negsuc n) less rich = absurd (omega (arith, ints))
+pub worth-decreases : (old new : ℤ) → new <ℤ old → pos 0 ≤ℤ new → worth new < worth old
+worth-decreases (pos m) (pos n) less rich = omega (arith, ints)
+worth-decreases (pos m) (negsuc n) less rich = absurd (omega (arith, ints))
+worth-decreases (negsuc m) (pos n) less rich = absurd (omega (arith, ints))
+worth-decreases (negsuc m) (negsuc n) less rich = absurd (omega (arith, ints))
 
 -- what an arc gives where no step with room leaves the marks
 closed_at_arc : (tail head : Bool) (x floor room : ℕ) → floor ≤ x → x ≤ room → (head ≡ true → tail ≡ false → x ≤ floor) → (tail ≡ true → head ≡ false → room ≤ x)

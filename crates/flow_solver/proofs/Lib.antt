@@ -1,9 +1,9 @@
-pub mod Falls
+pub mod Updates
 pub mod Bounds
 pub mod Chains
 pub mod Cuts
 pub mod Endings
-pub mod Falling
+pub mod Updating
 pub mod Members
 pub mod Relaxing
 pub mod Runs
@@ -12,4 +12,4 @@ pub mod Settling
 pub mod Shifts
 pub mod Starts
 pub mod States
-pub mod Ways
+pub mod Paths

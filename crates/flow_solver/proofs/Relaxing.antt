@@ -1,11 +1,12 @@
 -- The search as a step is relaxed.
-use Rattle.std.proofs.Common.{◌≡◌, ◌≢◌, ℕ, ◌+◌, ◌-◌, ◌<◌, ◌≤◌, ◌⊎◌, Bool, true, false, List, length, get_or-set_same, get_or-set_other, sym, ap, subst, ◌∙◌, arith, inl, inr}
+use Rattle.std.proofs.Common.{◌≡◌, ◌≢◌, ℕ, ◌+◌, ◌-◌, ◌<◌, ◌≤◌, ◌==◌, ◌⊎◌, Bool, true, false, List, length, get_or-set_same, get_or-set_other, sym, ap, subst, ◌∙◌, arith, inl, inr}
 use Rattle.std.specs.Prelude.{pos, ◌+ℤ◌, slice_index, slice_set}
 use Rattle.std.specs.declared.cmp.Reverse.{Reverse}
 use Rattle.std.proofs.lemmas.Int.{ints}
-use Rattle.std.proofs.lemmas.Bool.{cases_Bool, cases_order}
+use Rattle.std.proofs.lemmas.Bool.{cases_Bool, cases_eq, cases_order, eq-eqb, ne_eqb}
 use Rattle.std.proofs.lemmas.List.{length-set}
 use Rattle.bounded_network.specs.Network.{NetworkValue, IsNetwork, arc_at}
+use Rattle.bounded_network.specs.declared.network.Arc.{Arc}
 use Rattle.flow_solver.specs.declared.state.State.{State}
 use Rattle.flow_solver.specs.declared.step.Step.{Step}
 use Rattle.flow_solver.specs.declared.search.Reach.{Reach}
@@ -17,7 +18,7 @@ use Rattle.flow_solver.specs.Search.{unreached, distance_at, reach_at, no_reach,
 use Rattle.flow_solver.proofs.Searches.{IsStateOf, step_not_negative, IsLowered, IsLowered-set, IsSearchOf-lower, settled_apart}
 use Rattle.flow_solver.proofs.Bounds.{end_in, over_small}
 
-module _ (net : NetworkValue) (state : State) (source node : ℕ) (tree reaches : List Reach) (distances : List ℕ) (settled : List Bool) (waiting : List (Reverse (ℕ × ℕ)))
+module _ (net : NetworkValue) (state : State) (source node : ℕ) (tree reaches : List Reach) (distances : List ℕ) (settled : List Bool) (waiting : List (Reverse ℕ × ℕ))
     (good : IsNetwork net) (kept : IsStateOf net state) (search : IsSearchOf net state source node tree reaches distances settled waiting)
     (step : Step) (a_in : step.arc < length net.arcs) (starts : start_of (arc_at net step.arc) step.forward ≡ node)
     (room : 0 < left_on (arc_at net step.arc) (slice_index state.flow.items step.arc) step.forward)
@@ -65,7 +66,7 @@ module _ (net : NetworkValue) (state : State) (source node : ℕ) (tree reaches 
 
   pub IsSearchOf-relax : (reach : Reach) → reach.node ≡ to → reach.from ≡ length tree - 1 → reach.step ≡ step → 0 < reach.width
       → reach.width ≤ left_on (arc_at net step.arc) (slice_index state.flow.items step.arc) step.forward → reach.width ≤ (reach_at tree (length tree - 1)).width
-      → (waiting' : List (Reverse (ℕ × ℕ))) → Waits waiting' d to → ((e v : ℕ) → Waits waiting e v → Waits waiting' e v) → ((e v : ℕ) → Waits waiting' e v → Waits waiting e v ⊎ ((e ≡ d) × (v ≡ to)))
+      → (waiting' : List (Reverse ℕ × ℕ)) → Waits waiting' d to → ((e v : ℕ) → Waits waiting e v → Waits waiting' e v) → ((e v : ℕ) → Waits waiting' e v → Waits waiting e v ⊎ ((e ≡ d) × (v ≡ to)))
       → IsSearchOf net state source node tree (slice_set reaches to reach) (slice_set distances to d) settled waiting'
   IsSearchOf-relax reach node_is from_is step_is some left narrow waiting' added stays only =
       let small = over_small net state source node tree reaches distances settled waiting good kept search step.arc step.forward a_in starts in
@@ -78,13 +79,34 @@ module _ (net : NetworkValue) (state : State) (source node : ℕ) (tree reaches 
       (λ v ne. get_or-set_other reaches to v reach no_reach ne)
       added stays only
 
--- a relaxed step stays relaxed as distances fall, but not that of its start
+-- a relaxed step stays relaxed as distances update_tree, but not that of its start
 pub IsRelaxed-lower : (net : NetworkValue) (state : State) (old new : List ℕ) (v a : ℕ) (forward : Bool) → ((u : ℕ) → distance_at new u ≤ distance_at old u) → distance_at new v ≡ distance_at old v
     → IsRelaxed net state old v a forward → IsRelaxed net state new v a forward
 IsRelaxed-lower net state old new v a forward less same relaxed starts room =
     let h = relaxed starts room in
     let l = less (end_of (arc_at net a) forward) in
     omega (arith, ints, h, l, same)
+
+-- at an end of the arc, the step forward starts where that is the tail, and else the step back
+pub start_at_end : (arc : Arc) (v : ℕ) → (arc.tail ≡ v) ⊎ (arc.head ≡ v) → start_of arc (arc.tail == v) ≡ v
+start_at_end arc v at = elim (cases_eq arc.tail v) [
+  | inl e ↦ rw (eq-eqb arc.tail v e) e
+  | inr ne ↦ rw (ne_eqb arc.tail v ne) (elim at [ inl e ↦ absurd (ne e) | inr e ↦ e ])
+]
+
+-- where the step that starts at the node is relaxed, so is the other over its arc, which starts there in a loop alone
+pub IsRelaxed-both : (net : NetworkValue) (state : State) (distances : List ℕ) (v a : ℕ) (first : Bool) → IsStateOf net state → a < length net.arcs → start_of (arc_at net a) first ≡ v
+    → IsRelaxed net state distances v a first → (forward : Bool) → IsRelaxed net state distances v a forward
+IsRelaxed-both net state distances v a true kept a_in at relaxed true = relaxed
+IsRelaxed-both net state distances v a true kept a_in at relaxed false = λ starts room.
+    let h = step_not_negative net state kept a false a_in room in
+    let e = ap (distance_at distances) at in
+    omega (arith, ints, h, e)
+IsRelaxed-both net state distances v a false kept a_in at relaxed true = λ starts room.
+    let h = step_not_negative net state kept a true a_in room in
+    let e = ap (distance_at distances) at in
+    omega (arith, ints, h, e)
+IsRelaxed-both net state distances v a false kept a_in at relaxed false = relaxed
 
 -- a step starts at its tail or its head
 step_at : (net : NetworkValue) (a v : ℕ) (forward : Bool) → start_of (arc_at net a) forward ≡ v → (arc_at net a).tail ≢ v → (arc_at net a).head ≢ v → ⊥

@@ -21,7 +21,7 @@ use Rattle.flow_solver.proofs.Settling.{IsSearchOf-settle}
 use Rattle.flow_solver.proofs.Bounds.{end_in, over_settled_small}
 
 -- nothing waits but settled nodes: the settled nodes are closed
-pub IsClosed-from_search : (net : NetworkValue) (state : State) (source node : ℕ) (tree reaches : List Reach) (distances : List ℕ) (settled : List Bool) (waiting : List (Reverse (ℕ × ℕ)))
+pub IsClosed-from_search : (net : NetworkValue) (state : State) (source node : ℕ) (tree reaches : List Reach) (distances : List ℕ) (settled : List Bool) (waiting : List (Reverse ℕ × ℕ))
     → IsNetwork net → IsStateOf net state → IsSearchOf net state source node tree reaches distances settled waiting → IsRelaxedFrom net state distances node 0 → pos 0 ≤ℤ excess_at state.excess.items node
     → ((d v : ℕ) → Waits waiting d v → is_settled settled v ≡ true) → IsClosed net state source settled
 IsClosed-from_search net state source node tree reaches distances settled waiting good kept search done calm none =
@@ -47,7 +47,7 @@ IsClosed-from_search net state source node tree reaches distances settled waitin
     }
 
 -- the nearest node that waits is settled next
-pub IsSearchOf-next : (net : NetworkValue) (state : State) (source node : ℕ) (tree reaches : List Reach) (distances : List ℕ) (settled : List Bool) (waiting waiting' : List (Reverse (ℕ × ℕ)))
+pub IsSearchOf-next : (net : NetworkValue) (state : State) (source node : ℕ) (tree reaches : List Reach) (distances : List ℕ) (settled : List Bool) (waiting waiting' : List (Reverse ℕ × ℕ))
     → IsNetwork net → IsSearchOf net state source node tree reaches distances settled waiting → IsRelaxedFrom net state distances node 0 → pos 0 ≤ℤ excess_at state.excess.items node
     → (d v : ℕ) → Waits waiting d v → is_settled settled v ≡ false
     → ((e u : ℕ) → Waits waiting' e u → Waits waiting e u)
@@ -81,7 +81,7 @@ one_settled n settled source b here others =
     omega (arith, change, none, at)
 
 -- a search that has settled its source alone, from a blank one
-pub IsSearchOf-begin : (net : NetworkValue) (state : State) (source : ℕ) (root : Reach) (reaches : List Reach) (blank_distances : List ℕ) (blank_settled : List Bool) (waiting : List (Reverse (ℕ × ℕ)))
+pub IsSearchOf-begin : (net : NetworkValue) (state : State) (source : ℕ) (root : Reach) (reaches : List Reach) (blank_distances : List ℕ) (blank_settled : List Bool) (waiting : List (Reverse ℕ × ℕ))
     → source < net.nodes → root.node ≡ source → 0 < root.width → pos root.width ≤ℤ excess_at state.excess.items source → length reaches ≡ net.nodes
     → length blank_distances ≡ net.nodes → length blank_settled ≡ net.nodes → ((v : ℕ) → v < net.nodes → IsCleared blank_distances blank_settled v)
     → ((d v : ℕ) → Waits waiting d v → ⊥)

@@ -1,4 +1,4 @@
--- The search as a distance falls, and as a node is settled.
+-- The search as a distance decreases, and as a node is settled.
 use Rattle.std.proofs.Common.{◌≡◌, ◌≢◌, ℕ, ◌<◌, ◌≤◌, ◌⊎◌, Bool, true, false, List, length, get_or-set_same, get_or-set_other, refl, ◌∙◌, arith, inl, inr}
 use Rattle.std.specs.Prelude.{pos, ◌≤ℤ◌, slice_set, slice_index}
 use Rattle.std.specs.declared.cmp.Reverse.{Reverse}
@@ -105,9 +105,9 @@ module _ (net : NetworkValue) (state : State) (old new : List ℕ) (w d : ℕ) (
       }
 
 -- the search once a distance fell
-pub IsSearchOf-lower : (net : NetworkValue) (state : State) (source node : ℕ) (tree reaches : List Reach) (distances : List ℕ) (settled : List Bool) (waiting : List (Reverse (ℕ × ℕ)))
+pub IsSearchOf-lower : (net : NetworkValue) (state : State) (source node : ℕ) (tree reaches : List Reach) (distances : List ℕ) (settled : List Bool) (waiting : List (Reverse ℕ × ℕ))
     → IsSearchOf net state source node tree reaches distances settled waiting
-    → (w d : ℕ) (distances' : List ℕ) (reaches' : List Reach) (waiting' : List (Reverse (ℕ × ℕ)))
+    → (w d : ℕ) (distances' : List ℕ) (reaches' : List Reach) (waiting' : List (Reverse ℕ × ℕ))
     → w < net.nodes → d < unreached → is_settled settled w ≡ false → distance_at distances node ≤ d → IsLowered distances distances' w d
     → length reaches' ≡ length reaches → IsReach net state tree distances' (length tree) (reach_at reaches' w) w → ((v : ℕ) → v ≢ w → reach_at reaches' v ≡ reach_at reaches v)
     → Waits waiting' d w → ((e v : ℕ) → Waits waiting e v → Waits waiting' e v) → ((e v : ℕ) → Waits waiting' e v → Waits waiting e v ⊎ ((e ≡ d) × (v ≡ w)))

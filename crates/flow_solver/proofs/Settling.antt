@@ -191,9 +191,9 @@ module _ (net : NetworkValue) (state : State) (source : ℕ) (tree : List Reach)
       }
 
 -- the search once its nearest node is settled
-pub IsSearchOf-settle : (net : NetworkValue) (state : State) (source node : ℕ) (tree reaches : List Reach) (distances : List ℕ) (settled : List Bool) (waiting : List (Reverse (ℕ × ℕ)))
+pub IsSearchOf-settle : (net : NetworkValue) (state : State) (source node : ℕ) (tree reaches : List Reach) (distances : List ℕ) (settled : List Bool) (waiting : List (Reverse ℕ × ℕ))
     → IsNetwork net → IsSearchOf net state source node tree reaches distances settled waiting → IsRelaxedFrom net state distances node 0 → pos 0 ≤ℤ excess_at state.excess.items node
-    → (v : ℕ) (waiting' : List (Reverse (ℕ × ℕ))) → v < net.nodes → is_settled settled v ≡ false → distance_at distances v < unreached
+    → (v : ℕ) (waiting' : List (Reverse ℕ × ℕ)) → v < net.nodes → is_settled settled v ≡ false → distance_at distances v < unreached
     → ((u : ℕ) → u < net.nodes → is_settled settled u ≡ false → distance_at distances v ≤ distance_at distances u)
     → ((d u : ℕ) → Waits waiting' d u → Waits waiting d u)
     → ((d u : ℕ) → Waits waiting d u → is_settled settled u ≡ false → u ≢ v → Waits waiting' d u)

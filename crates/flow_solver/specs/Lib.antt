@@ -1,9 +1,10 @@
+pub mod Balance
 pub mod Coarse
 pub mod Links
 pub mod Queue
 pub mod Search
-pub mod Sides
+pub mod Residual
 pub mod Solution
 pub mod State
 pub mod Step
-pub mod Way
+pub mod Path

@@ -1,4 +1,4 @@
--- The search for the nearest node that lacks something, by reduced costs.
+-- The search for the nearest node with a deficit, by reduced costs.
 use Rattle.std.specs.Prelude.{ℕ, ◌≡◌, ◌≢◌, ◌-◌, ◌*◌, ◌<◌, ◌≤◌, ◌⊎◌, Bool, true, false, List, [], length, slice_index, slice_index_or, ℤ, pos, ◌+ℤ◌, ◌≤ℤ◌, ◌<ℤ◌}
 use Rattle.std.specs.BinaryHeap.{heap_items}
 use Rattle.std.specs.declared.cmp.Reverse.{Reverse}
@@ -71,7 +71,7 @@ pub record IsTree (net : NetworkValue) (state : State) (source : ℕ) (tree : Li
   pub near : (u v : ℕ) → is_settled settled u ≡ true → is_settled settled v ≡ true → height_at state distances u ≤ℤ (height_at state distances v +ℤ pos (8000000000 * (length tree - 1)))
 
 -- the search after the node was settled, and before all its steps are relaxed
-pub record IsSearchOf (net : NetworkValue) (state : State) (source node : ℕ) (tree reaches : List Reach) (distances : List ℕ) (settled : List Bool) (waiting : List (Reverse (ℕ × ℕ))) : Type 0 where
+pub record IsSearchOf (net : NetworkValue) (state : State) (source node : ℕ) (tree reaches : List Reach) (distances : List ℕ) (settled : List Bool) (waiting : List (Reverse ℕ × ℕ)) : Type 0 where
   pub is_tree : IsTree net state source tree distances settled
   pub distances_long : length distances ≡ net.nodes
   pub reaches_long : length reaches ≡ net.nodes
@@ -97,12 +97,19 @@ pub record SameTree (old new : Search) : Type 0 where
   pub tree : new.tree.items ≡ old.tree.items
   pub settled : new.settled.items ≡ old.settled.items
 
--- a node that lacks something was settled last
+-- the search went on from the node that was settled last: its tree is the same, and no distance rose
+pub record Relaxes (net : NetworkValue) (state : State) (old new : Search) : Type 0 where
+  pub same : SameTree old new
+  pub search : IsSearch net state new
+  pub lower : (v : ℕ) → distance_at new.distances.items v ≤ distance_at old.distances.items v
+  pub stays : distance_at new.distances.items old.node ≡ distance_at old.distances.items old.node
+
+-- a node with a deficit was settled last
 pub record IsFound (net : NetworkValue) (state : State) (search : Search) : Type 0 where
   pub search_kept : IsSearch net state search
-  pub lacks : excess_at state.excess.items search.node <ℤ pos 0
+  pub deficit : excess_at state.excess.items search.node <ℤ pos 0
 
--- no step with room leaves the settled nodes, and none of them lacks anything
+-- no step with room leaves the settled nodes, and none of them has a deficit
 pub record IsClosed (net : NetworkValue) (state : State) (source : ℕ) (settled : List Bool) : Type 0 where
   pub long : length settled ≡ net.nodes
   pub source_settled : is_settled settled source ≡ true

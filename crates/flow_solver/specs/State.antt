@@ -28,7 +28,7 @@ pub record IsState (net : NetworkValue) (flow : List ℕ) (excess : List ℤ) (p
   pub optimal : AreOptimal net flow potentials
   pub bounded : AreBounded net potentials
 
--- the nodes that lack something have small potentials
+-- the nodes with a deficit have small potentials
 abbrev pub AreCalm : NetworkValue → List ℤ → List ℤ → Type 0
 AreCalm net excess potentials =
     (v : ℕ) → v < net.nodes → excess_at excess v <ℤ pos 0 → IsWithin 8000000000 (potential_at potentials v)
@@ -55,7 +55,7 @@ pub record AreExcesses (net : NetworkValue) (flow : List ℕ) (excess : List ℤ
   pub long : length excess ≡ net.nodes
   pub each : (v : ℕ) → v < net.nodes → excess_at excess v ≡ pos (entering net flow v) -ℤ pos (leaving net flow v)
 
--- each potential fell by what its node's distance lacks to the depth
-pub record AreFallen (old new : List ℤ) (distances : List ℕ) (depth : ℕ) : Type 0 where
+-- each potential is lower by what its node's distance is short of the depth
+pub record AreUpdated (old new : List ℤ) (distances : List ℕ) (depth : ℕ) : Type 0 where
   pub long : length new ≡ length old
   pub each : (v : ℕ) → v < length old → potential_at new v ≡ potential_at old v -ℤ pos (depth - slice_index distances v)

@@ -1,12 +1,12 @@
 // A search before it begins, and once it is done with. Only what it touched is cleared.
 ghost use Rattle.std.specs.Prelude.{◌≡◌, ◌<◌, ◌≤◌, [], length, ℕ, ℤ, pos, ◌≤ℤ◌, ◌<ℤ◌, IfOk, OnOk};
-ghost use Rattle.std.specs.BinaryHeap.{heap_items, heap_len};
+ghost use Rattle.std.specs.BinaryHeap.{heap_items};
 ghost use Rattle.bounded_network.specs.Network.{IsNetwork};
 ghost use Rattle.flow_solver.specs.Queue.{Waits};
 ghost use Rattle.flow_solver.specs.Search.{IsBlank, IsClearable, IsCleared, IsSearch, reach_at};
 ghost use Rattle.flow_solver.specs.State.{IsState, excess_at};
 
-use crate::queue::{Queue, empty, pop};
+use crate::queue::{self, Queue, empty, waiting};
 use crate::search::{Reach, Search, UNREACHED, width_of};
 use crate::state::State;
 use crate::step::Step;
@@ -100,17 +100,17 @@ fn forget_tree(tree: &[Reach], distances: &mut Vec<u64>, settled: &mut Vec<bool>
 }
 
 // Clears the nodes that wait.
-fn forget_queue(queue: &mut Queue, distances: &mut Vec<u64>, settled: &mut Vec<bool>)
-    requires distances_in { (d v : ℕ) → Waits (heap_items queue.old.waiting) d v → v < length distances.old.items }
+fn forget_waiting(queue: &Queue, distances: &mut Vec<u64>, settled: &mut Vec<bool>)
+    requires distances_in { (d v : ℕ) → Waits (heap_items queue.now.waiting) d v → v < length distances.old.items }
     requires settled_in { length settled.old.items ≡ length distances.old.items }
     ensures distances_long { length distances.new.items ≡ length distances.old.items }
     ensures settled_long { length settled.new.items ≡ length settled.old.items }
-    ensures none { (d v : ℕ) → Waits (heap_items queue.new.waiting) d v → ⊥ }
-    ensures cleared { (d v : ℕ) → Waits (heap_items queue.old.waiting) d v → IsCleared distances.new.items settled.new.items v }
+    ensures cleared { (d v : ℕ) → Waits (heap_items queue.now.waiting) d v → IsCleared distances.new.items settled.new.items v }
     ensures stays { (v : ℕ) → IsCleared distances.old.items settled.old.items v → IsCleared distances.new.items settled.new.items v }
 {
-    while let Some((_, node)) = pop(queue) {
-        forget(distances, settled, node);
+    let nodes = waiting(queue);
+    for place in 0..nodes.len() {
+        forget(distances, settled, nodes[place].1);
     }
 }
 
@@ -122,9 +122,6 @@ pub fn clear(net: &Network, search: &mut Search)
     let _nodes = net.nodes();
     forget_tree(&search.tree, &mut search.distances, &mut search.settled);
     search.tree.clear();
-    forget_queue(
-        &mut search.queue,
-        &mut search.distances,
-        &mut search.settled,
-    );
+    forget_waiting(&search.queue, &mut search.distances, &mut search.settled);
+    queue::clear(&mut search.queue);
 }

@@ -1,19 +1,20 @@
-// Potentials near those of a best circulation, for networks where the ways from the first potentials would be long.
+// Potentials near those of a best circulation, for networks where the paths from the first potentials would be long.
 //
-// Excesses are sent over arcs with a negative reduced cost, and a node that has no such arc falls by a slack more than it
-// must to have one (Goldberg and Tarjan 1990). The slack shrinks from phase to phase. Only the potentials are kept, and any
-// are right to start from, so that nothing is proved of the amounts: those that would be too large stop at their bounds.
+// Cost scaling (Goldberg and Tarjan 1990): excesses are pushed over residual arcs with a negative reduced cost, and a node
+// that has no such arc is relabelled, to a potential lower by epsilon than it must be to have one. Epsilon shrinks from
+// phase to phase. Only the potentials are kept, and any are right to start from, so that nothing is proved of the amounts:
+// those that would be too large stop at their bounds.
 ghost use Rattle.std.specs.Prelude.{◌≡◌, ◌<◌, length, ℕ, IfOk, OnOk, All};
 ghost use Rattle.bounded_network.specs.Network.{potential_at};
 ghost use Rattle.flow_solver.specs.Coarse.{IsCoarse};
 ghost use Rattle.flow_solver.specs.Links.{AreLinks};
-ghost use Rattle.flow_solver.specs.Sides.{IsSide, AreSides};
+ghost use Rattle.flow_solver.specs.Residual.{IsResidualArc, AreResidualArcs};
 ghost use Rattle.flow_solver.specs.State.{IsWithin};
 
 use crate::guess::first_potentials;
 use crate::links::Links;
+use crate::residual::{ResidualArc, ResidualArcs, residual_arc_of, residual_arcs_of};
 use crate::search::width_of;
-use crate::sides::{Side, Sides, side_of, sides_of};
 use crate::start::start_at;
 use crate::step::{arc_count, arc_of};
 use bounded_network::{MAX_COST, Network};
@@ -22,11 +23,11 @@ use std::alloc::{AllocError, Global};
 // How many phases there are.
 const PHASES: u32 = 7;
 
-// How far the slack shrinks from phase to phase.
+// How far epsilon shrinks from phase to phase.
 const SHRINKING: i64 = 8;
 
-// The greatest slack: with more of it, nodes could fall to the least potential though there is a circulation.
-const GREATEST_SLACK: i64 = MAX_COST / 16;
+// The greatest epsilon: above it, nodes could be relabelled to the least potential though there is a circulation.
+const GREATEST_EPSILON: i64 = MAX_COST / 16;
 
 // The effort that a phase may take for each node and arc. Where there is no circulation, it would never end by itself.
 const EFFORT: usize = 1024;
@@ -38,11 +39,11 @@ pub struct Left {
     back: u64,
 }
 
-/// What is left for each arc, the excesses and potentials of a phase, for each node the next of its sides to send over, and
-/// the nodes that have an excess.
+/// What is left for each arc, the excesses and potentials of a phase, for each node the next of its residual arcs to push
+/// over, and the nodes that have an excess.
 #[derive(Drop)]
 pub struct Coarse {
-    slack: i64,
+    epsilon: i64,
     left: Vec<Left>,
     excess: Vec<i128>,
     potentials: Vec<i64>,
@@ -61,7 +62,7 @@ fn greatest_cost(net: &Network) -> i64 {
 }
 
 // The nodes with an excess.
-fn rich_nodes(alloc: Global, net: &Network, excess: &[i128]) -> Result<Vec<u32>, AllocError>
+fn active_nodes(alloc: Global, net: &Network, excess: &[i128]) -> Result<Vec<u32>, AllocError>
     requires { length excess.now ≡ net.now.nodes }
     ensures { IfOk result (λ nodes. All (λ v. v < net.now.nodes) nodes.items) }
 {
@@ -94,21 +95,21 @@ fn lefts_of(alloc: Global, net: &Network, flow: &[u64]) -> Result<Vec<Left>, All
 fn phase_at(
     alloc: Global,
     net: &Network,
-    sides: &Sides,
+    residual_arcs: &ResidualArcs,
     potentials: Vec<i64>,
-    slack: i64,
+    epsilon: i64,
 ) -> Result<Coarse, AllocError>
-    requires sides { AreSides net.now sides.now }
+    requires residual_arcs { AreResidualArcs net.now residual_arcs.now }
     requires long { length potentials.items ≡ net.now.nodes }
     requires small { (v : ℕ) → IsWithin 8000000000 (potential_at potentials.items v) }
     ensures { IfOk result (λ coarse. IsCoarse net.now coarse) }
 {
     let state = start_at(alloc, net, potentials)?;
     let left = lefts_of(alloc, net, &state.flow)?;
-    let active = rich_nodes(alloc, net, &state.excess)?;
-    let next = sides.starts.as_slice().to_vec(alloc)?;
+    let active = active_nodes(alloc, net, &state.excess)?;
+    let next = residual_arcs.starts.as_slice().to_vec(alloc)?;
     Ok(Coarse {
-        slack,
+        epsilon,
         left,
         excess: state.excess,
         potentials: state.potentials,
@@ -174,40 +175,55 @@ fn give(
     Ok(())
 }
 
-// Sends as much of the node's excess over its side as the arc takes, if that pays.
-fn send_over(net: &Network, coarse: &mut Coarse, node: u32, side: Side) -> Result<(), AllocError>
+// Pushes as much of the node's excess over its residual arc as that takes, if its reduced cost is negative.
+fn push_over(
+    net: &Network,
+    coarse: &mut Coarse,
+    node: u32,
+    residual_arc: ResidualArc,
+) -> Result<(), AllocError>
     requires coarse { IsCoarse net.now coarse.old }
     requires node_in { node < net.now.nodes }
-    requires side { IsSide net.now side }
+    requires residual_arc { IsResidualArc net.now residual_arc }
     ensures { OnOk result (IsCoarse net.now coarse.new) }
 {
-    let left = coarse.left[side.arc as usize];
-    let room = room_in(left, side.forward);
+    let left = coarse.left[residual_arc.arc as usize];
+    let room = room_in(left, residual_arc.forward);
     if room == 0 {
         return Ok(());
     }
     let from_potential = coarse.potentials[node as usize];
-    let to_potential = coarse.potentials[side.to as usize];
-    if !pays(from_potential, to_potential, side.cost) {
+    let to_potential = coarse.potentials[residual_arc.to as usize];
+    if !pays(from_potential, to_potential, residual_arc.cost) {
         return Ok(());
     }
     let amount = amount_of(coarse.excess[node as usize]).min(room);
-    coarse.left[side.arc as usize] = less_by(left, side.forward, amount);
-    give(net, coarse, node, side.to, amount)?;
+    coarse.left[residual_arc.arc as usize] = less_by(left, residual_arc.forward, amount);
+    give(net, coarse, node, residual_arc.to, amount)?;
     Ok(())
 }
 
-// Sends the node's excess over its sides from the next on, until it has none or the sides are at their end.
-fn send(net: &Network, sides: &Sides, coarse: &mut Coarse, node: u32) -> Result<(), AllocError>
+// Pushes the node's excess over its residual arcs from the next on, until it has none or they are at their end.
+fn push_excess(
+    net: &Network,
+    residual_arcs: &ResidualArcs,
+    coarse: &mut Coarse,
+    node: u32,
+) -> Result<(), AllocError>
     requires coarse { IsCoarse net.now coarse.old }
-    requires sides { AreSides net.now sides.now }
+    requires residual_arcs { AreResidualArcs net.now residual_arcs.now }
     requires node_in { node < net.now.nodes }
     ensures { OnOk result (IsCoarse net.now coarse.new) }
 {
-    let end = sides.starts[node as usize + 1];
+    let end = residual_arcs.starts[node as usize + 1];
     let mut place = coarse.next[node as usize];
     while place < end {
-        send_over(net, coarse, node, side_of(net, sides, place))?;
+        push_over(
+            net,
+            coarse,
+            node,
+            residual_arc_of(net, residual_arcs, place),
+        )?;
         if coarse.excess[node as usize] <= 0 {
             break;
         }
@@ -228,38 +244,47 @@ fn better(best: i64, to: i64, cost: i64) -> i64
     if even > best { even } else { best }
 }
 
-// The greater of the best and the potential at which the side is even, if its arc takes more.
-fn better_over(net: &Network, coarse: &Coarse, side: Side, best: i64) -> i64
+// The greater of the best and the potential at which the residual arc is even, if it takes more.
+fn better_over(net: &Network, coarse: &Coarse, residual_arc: ResidualArc, best: i64) -> i64
     requires coarse { IsCoarse net.now coarse.now }
-    requires side { IsSide net.now side }
+    requires residual_arc { IsResidualArc net.now residual_arc }
     requires best_small { IsWithin 16000000000 best }
     ensures { IsWithin 16000000000 result }
 {
-    if room_in(coarse.left[side.arc as usize], side.forward) == 0 {
+    if room_in(coarse.left[residual_arc.arc as usize], residual_arc.forward) == 0 {
         return best;
     }
-    better(best, coarse.potentials[side.to as usize], side.cost)
+    better(
+        best,
+        coarse.potentials[residual_arc.to as usize],
+        residual_arc.cost,
+    )
 }
 
-// The greatest potential of the node at which one of its sides with room is even.
-fn best_of(net: &Network, sides: &Sides, coarse: &Coarse, node: u32) -> i64
+// The greatest potential of the node at which one of its residual arcs with room is even.
+fn best_of(net: &Network, residual_arcs: &ResidualArcs, coarse: &Coarse, node: u32) -> i64
     requires coarse { IsCoarse net.now coarse.now }
-    requires sides { AreSides net.now sides.now }
+    requires residual_arcs { AreResidualArcs net.now residual_arcs.now }
     requires node_in { node < net.now.nodes }
     ensures { IsWithin 16000000000 result }
 {
     let mut best = -2 * MAX_COST;
-    for place in sides.starts[node as usize]..sides.starts[node as usize + 1] {
-        best = better_over(net, coarse, side_of(net, sides, place), best);
+    for place in residual_arcs.starts[node as usize]..residual_arcs.starts[node as usize + 1] {
+        best = better_over(
+            net,
+            coarse,
+            residual_arc_of(net, residual_arcs, place),
+            best,
+        );
     }
     best
 }
 
-// The best potential less the slack, within the greatest cost.
-fn fallen(best: i64, slack: i64) -> i64
+// The best potential less epsilon, within the greatest cost.
+fn relabelled(best: i64, epsilon: i64) -> i64
     ensures { IsWithin 8000000000 result }
 {
-    let wanted = best.saturating_sub(slack);
+    let wanted = best.saturating_sub(epsilon);
     if wanted < -MAX_COST {
         -MAX_COST
     } else if wanted > MAX_COST {
@@ -270,7 +295,7 @@ fn fallen(best: i64, slack: i64) -> i64
 }
 
 // Gives the node the potential.
-fn lower(net: &Network, coarse: &mut Coarse, node: u32, value: i64)
+fn set_potential(net: &Network, coarse: &mut Coarse, node: u32, value: i64)
     requires coarse { IsCoarse net.now coarse.old }
     requires node_in { node < net.now.nodes }
     requires small { IsWithin 8000000000 value }
@@ -279,60 +304,80 @@ fn lower(net: &Network, coarse: &mut Coarse, node: u32, value: i64)
     coarse.potentials[node as usize] = value;
 }
 
-// Makes the node active, with all its sides to send over.
-fn reopen(net: &Network, sides: &Sides, coarse: &mut Coarse, node: u32) -> Result<(), AllocError>
+// Makes the node active, with all its residual arcs to push over again.
+fn activate(
+    net: &Network,
+    residual_arcs: &ResidualArcs,
+    coarse: &mut Coarse,
+    node: u32,
+) -> Result<(), AllocError>
     requires coarse { IsCoarse net.now coarse.old }
-    requires sides { AreSides net.now sides.now }
+    requires residual_arcs { AreResidualArcs net.now residual_arcs.now }
     requires node_in { node < net.now.nodes }
     ensures { OnOk result (IsCoarse net.now coarse.new) }
 {
-    coarse.next[node as usize] = sides.starts[node as usize];
+    coarse.next[node as usize] = residual_arcs.starts[node as usize];
     coarse.active.push(node)?;
     Ok(())
 }
 
-// Lets the node fall until it has an arc that pays. Where it can't fall further, it keeps its excess.
-fn fall(net: &Network, sides: &Sides, coarse: &mut Coarse, node: u32) -> Result<(), AllocError>
+// Relabels the node, so that it has a residual arc of negative reduced cost. Where that would be below the least potential,
+// it keeps its excess.
+fn relabel(
+    net: &Network,
+    residual_arcs: &ResidualArcs,
+    coarse: &mut Coarse,
+    node: u32,
+) -> Result<(), AllocError>
     requires coarse { IsCoarse net.now coarse.old }
-    requires sides { AreSides net.now sides.now }
+    requires residual_arcs { AreResidualArcs net.now residual_arcs.now }
     requires node_in { node < net.now.nodes }
     ensures { OnOk result (IsCoarse net.now coarse.new) }
 {
-    let value = fallen(best_of(net, sides, coarse, node), coarse.slack);
+    let value = relabelled(best_of(net, residual_arcs, coarse, node), coarse.epsilon);
     if value < coarse.potentials[node as usize] {
-        lower(net, coarse, node, value);
-        reopen(net, sides, coarse, node)?;
+        set_potential(net, coarse, node, value);
+        activate(net, residual_arcs, coarse, node)?;
     }
     Ok(())
 }
 
-// Sends what the node has too much, and lets it fall where something is left.
-fn turn(net: &Network, sides: &Sides, coarse: &mut Coarse, node: u32) -> Result<(), AllocError>
+// Discharges the node: pushes its excess, and relabels it where some is left.
+fn discharge(
+    net: &Network,
+    residual_arcs: &ResidualArcs,
+    coarse: &mut Coarse,
+    node: u32,
+) -> Result<(), AllocError>
     requires coarse { IsCoarse net.now coarse.old }
-    requires sides { AreSides net.now sides.now }
+    requires residual_arcs { AreResidualArcs net.now residual_arcs.now }
     requires node_in { node < net.now.nodes }
     ensures { OnOk result (IsCoarse net.now coarse.new) }
 {
-    send(net, sides, coarse, node)?;
+    push_excess(net, residual_arcs, coarse, node)?;
     if coarse.excess[node as usize] > 0 {
-        fall(net, sides, coarse, node)?;
+        relabel(net, residual_arcs, coarse, node)?;
     }
     Ok(())
 }
 
-// The number of sides at the node.
-fn degree_of(net: &Network, sides: &Sides, node: u32) -> usize
-    requires sides { AreSides net.now sides.now }
+// The number of residual arcs at the node.
+fn degree_of(net: &Network, residual_arcs: &ResidualArcs, node: u32) -> usize
+    requires residual_arcs { AreResidualArcs net.now residual_arcs.now }
     requires node_in { node < net.now.nodes }
 {
-    sides.starts[node as usize + 1].saturating_sub(sides.starts[node as usize])
+    residual_arcs.starts[node as usize + 1].saturating_sub(residual_arcs.starts[node as usize])
 }
 
-// Gives turns to the active nodes, the latest first, until there are none or the effort is spent. A turn takes as much as
-// the node has sides, and one more.
-fn take_turns(net: &Network, sides: &Sides, coarse: &mut Coarse) -> Result<(), AllocError>
+// Discharges the active nodes, the latest first, until there are none or the effort is spent. One costs as much as the
+// node has residual arcs, and one more.
+fn discharge_all(
+    net: &Network,
+    residual_arcs: &ResidualArcs,
+    coarse: &mut Coarse,
+) -> Result<(), AllocError>
     requires coarse { IsCoarse net.now coarse.old }
-    requires sides { AreSides net.now sides.now }
+    requires residual_arcs { AreResidualArcs net.now residual_arcs.now }
     ensures { OnOk result (IsCoarse net.now coarse.new) }
 {
     let mut effort = EFFORT * (net.nodes() as usize + net.arcs().len());
@@ -340,8 +385,8 @@ fn take_turns(net: &Network, sides: &Sides, coarse: &mut Coarse) -> Result<(), A
         let Some(node) = coarse.active.pop() else {
             return Ok(());
         };
-        turn(net, sides, coarse, node)?;
-        effort = (effort - 1).saturating_sub(degree_of(net, sides, node));
+        discharge(net, residual_arcs, coarse, node)?;
+        effort = (effort - 1).saturating_sub(degree_of(net, residual_arcs, node));
     }
     Ok(())
 }
@@ -357,20 +402,17 @@ pub fn coarse_potentials(
     ensures small { IfOk result (λ potentials. (v : ℕ) → IsWithin 8000000000 (potential_at potentials.items v)) }
 {
     let mut potentials = first_potentials(alloc, net)?;
-    let mut slack = greatest_cost(net).min(GREATEST_SLACK);
-    let sides = sides_of(alloc, net, links)?;
+    let mut epsilon = greatest_cost(net).min(GREATEST_EPSILON);
+    let residual_arcs = residual_arcs_of(alloc, net, links)?;
     for _phase in 0..PHASES {
-        let mut coarse = phase_at(alloc, net, &sides, potentials, slack.max(1))?;
-        take_turns(net, &sides, &mut coarse)?;
+        let mut coarse = phase_at(alloc, net, &residual_arcs, potentials, epsilon.max(1))?;
+        discharge_all(net, &residual_arcs, &mut coarse)?;
         let ended = coarse.active.is_empty();
         potentials = coarse.potentials;
-        if !ended || slack <= 1 {
+        if !ended || epsilon <= 1 {
             return Ok(potentials);
         }
-        slack /= SHRINKING;
+        epsilon /= SHRINKING;
     }
     Ok(potentials)
 }
-
-#[cfg(test)]
-mod tests;

@@ -21,7 +21,7 @@ fn middle_of(potentials: &[i64]) -> i64 {
 }
 
 /// Marks at the nodes whose potential is below the middle of all. Where more has to enter some nodes than can leave them,
-/// a coarse solution lets those fall without end, and the others stay.
+/// a coarse solution lets those update_tree without end, and the others stay.
 pub fn low_nodes(alloc: Global, potentials: &[i64]) -> Result<Vec<bool>, AllocError>
     ensures { IfOk result (λ marks. length marks.items ≡ length potentials.now) }
 {
@@ -63,6 +63,3 @@ pub fn is_violated(net: &Network, marks: &[bool]) -> bool
     }
     balance > 0
 }
-
-#[cfg(test)]
-mod tests;

@@ -1,4 +1,4 @@
-// Potentials to start from. Any are right: these make few ways do.
+// Potentials to start from. Any are right: these make few paths do.
 ghost use Rattle.std.specs.Prelude.{◌≡◌, ◌<◌, ◌≤◌, length, ℕ, ℤ, pos, negsuc, ◌≤ℤ◌, IfOk};
 ghost use Rattle.bounded_network.specs.Network.{IsNetwork, potential_at};
 ghost use Rattle.flow_solver.specs.State.{IsWithin};

@@ -12,20 +12,20 @@
 // and Tarjan 1990), which also finds most of the marks. What is proved says nothing of the number of steps.
 #![tactic(auto)]
 
-mod begin;
+mod balance;
 mod blank;
 mod coarse;
 mod cut;
 mod drain;
 mod guess;
 mod links;
+mod path;
 mod queue;
+mod residual;
 mod search;
-mod sides;
 mod solver;
 mod start;
 mod state;
 mod step;
-mod way;
 
 pub use solver::{Solution, solve};

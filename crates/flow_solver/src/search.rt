@@ -1,4 +1,4 @@
-// The search for the nearest node that lacks something.
+// The search for the nearest node with a deficit.
 ghost use Rattle.std.specs.Prelude.{◌≡◌, ◌≢◌, ◌+◌, ◌-◌, ◌^◌, ◌<◌, ◌≤◌, ◌⊎◌, [], ◌∷◌, ◌++◌, length, ℕ, ℤ, pos, ◌+ℤ◌, ◌-ℤ◌, ◌≤ℤ◌, ◌<ℤ◌, IfOk, IfSome, IfNone, OnOk, IsTrue, Bool, true, false, slice_set, slice_index};
 ghost use Rattle.std.specs.Bool.{OnTrue, OnFalse};
 ghost use Rattle.std.specs.BinaryHeap.{heap_items, heap_len};
@@ -7,19 +7,19 @@ ghost use Rattle.flow_solver.specs.Links.{AreLinks};
 ghost use Rattle.flow_solver.specs.Queue.{Waits};
 ghost use Rattle.flow_solver.specs.State.{IsWithin, IsState, excess_at};
 ghost use Rattle.flow_solver.specs.Step.{start_of, end_of, step_cost, left_on, step_reduced};
-ghost use Rattle.flow_solver.specs.Search.{IsSearch, IsRelaxed, IsRelaxedFrom, IsReach, SameTree, IsFound, IsClosed, distance_at, reach_at, is_settled};
+ghost use Rattle.flow_solver.specs.Search.{IsSearch, IsRelaxed, IsRelaxedFrom, Relaxes, IsReach, SameTree, IsFound, IsClosed, distance_at, reach_at, is_settled};
 
 use crate::links::{Links, bound_before, last_bound};
 use crate::queue::{Queue, pop, push};
 use crate::state::State;
-use crate::step::{Step, arc_of, cost, end, left, start};
+use crate::step::{Step, arc_of, cost, end, left};
 use bounded_network::{Arc, Network};
 use std::alloc::AllocError;
 
 /// The distance of a node that is not reached.
 pub const UNREACHED: u64 = u64::MAX;
 
-/// How a node is reached: from the node at a place of the tree, by a step, and how much can be carried on the way.
+/// How a node is reached: from the node at a place of the tree, by a step, and how much can be carried on the path.
 #[derive(Clone, Copy)]
 pub struct Reach {
     pub node: u32,
@@ -108,10 +108,7 @@ fn relax(net: &Network, state: &State, search: &mut Search, step: Step) -> Resul
     requires search { IsSearch net.now state.now search.old }
     requires arc_in { step.arc < length net.now.arcs }
     requires starts { start_of (arc_at net.now step.arc) step.forward ≡ search.old.node }
-    ensures same { OnOk result (SameTree search.old search.new) }
-    ensures search { OnOk result (IsSearch net.now state.now search.new) }
-    ensures lower { OnOk result ((v : ℕ) → distance_at search.new.distances.items v ≤ distance_at search.old.distances.items v) }
-    ensures stays { OnOk result (distance_at search.new.distances.items search.old.node ≡ distance_at search.old.distances.items search.old.node) }
+    ensures relaxes { OnOk result (Relaxes net.now state.now search.old search.new) }
     ensures relaxed { OnOk result (IsRelaxed net.now state.now search.new.distances.items search.old.node step.arc step.forward) }
 {
     let arc = arc_of(net, step.arc);
@@ -129,46 +126,17 @@ fn relax(net: &Network, state: &State, search: &mut Search, step: Step) -> Resul
     Ok(())
 }
 
-// Relaxes a step if it starts at the node that was settled last.
-fn relax_if(net: &Network, state: &State, search: &mut Search, step: Step) -> Result<(), AllocError>
-    requires kept { IsState net.now state.now.flow.items state.now.excess.items state.now.potentials.items }
-    requires search { IsSearch net.now state.now search.old }
-    requires arc_in { step.arc < length net.now.arcs }
-    ensures same { OnOk result (SameTree search.old search.new) }
-    ensures search { OnOk result (IsSearch net.now state.now search.new) }
-    ensures lower { OnOk result ((v : ℕ) → distance_at search.new.distances.items v ≤ distance_at search.old.distances.items v) }
-    ensures stays { OnOk result (distance_at search.new.distances.items search.old.node ≡ distance_at search.old.distances.items search.old.node) }
-    ensures relaxed { OnOk result (IsRelaxed net.now state.now search.new.distances.items search.old.node step.arc step.forward) }
-{
-    let arc = arc_of(net, step.arc);
-    if start(arc, step.forward) != search.node {
-        return Ok(());
-    }
-    relax(net, state, search, step)?;
-    Ok(())
-}
-
-// Relaxes the steps over an arc from the node that was settled last.
+// Relaxes the step over the arc from the node that was settled last, which is one of its ends.
 fn relax_arc(net: &Network, state: &State, search: &mut Search, arc: u32) -> Result<(), AllocError>
     requires kept { IsState net.now state.now.flow.items state.now.excess.items state.now.potentials.items }
     requires search { IsSearch net.now state.now search.old }
     requires arc_in { arc < length net.now.arcs }
-    ensures same { OnOk result (SameTree search.old search.new) }
-    ensures search { OnOk result (IsSearch net.now state.now search.new) }
-    ensures lower { OnOk result ((v : ℕ) → distance_at search.new.distances.items v ≤ distance_at search.old.distances.items v) }
-    ensures stays { OnOk result (distance_at search.new.distances.items search.old.node ≡ distance_at search.old.distances.items search.old.node) }
+    requires at { ((arc_at net.now arc).tail ≡ search.old.node) ⊎ ((arc_at net.now arc).head ≡ search.old.node) }
+    ensures relaxes { OnOk result (Relaxes net.now state.now search.old search.new) }
     ensures relaxed { OnOk result ((forward : Bool) → IsRelaxed net.now state.now search.new.distances.items search.old.node arc forward) }
 {
-    relax_if(net, state, search, Step { arc, forward: true })?;
-    relax_if(
-        net,
-        state,
-        search,
-        Step {
-            arc,
-            forward: false,
-        },
-    )?;
+    let forward = arc_of(net, arc).tail == search.node;
+    relax(net, state, search, Step { arc, forward })?;
     Ok(())
 }
 
@@ -246,7 +214,7 @@ pub fn width_of(excess: i128) -> u64
     }
 }
 
-/// Settles nodes until one lacks something, which is then settled last and gives `true`, or until nothing waits.
+/// Settles nodes until one has a deficit, which is then settled last and gives `true`, or until nothing waits.
 pub fn run(
     net: &Network,
     links: &Links,

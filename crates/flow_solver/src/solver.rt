@@ -3,9 +3,7 @@ ghost use Rattle.bounded_network.specs.Network.{IsCirculation, AreOptimal, IsChe
 ghost use Rattle.flow_solver.specs.State.{AreBounded};
 ghost use Rattle.flow_solver.specs.Solution.{IfSolved, IfUnsat};
 
-use crate::begin::begin;
-use crate::blank::blank;
-use crate::drain::drain;
+use crate::balance::balanced;
 use crate::links::links_of;
 use bounded_network::Network;
 use std::alloc::{AllocError, Global};
@@ -28,7 +26,7 @@ pub enum Solution {
 ///
 /// Successive shortest paths (Jewell, Iri, Busacker and Gowen) with potentials (Edmonds and Karp): it begins with amounts
 /// that are optimal at its first potentials but don't balance, and carries what is too much at a node to the nearest node
-/// that lacks something, by reduced costs, until nothing is left or nothing is reached. Where much has to be settled for
+/// with a deficit, by reduced costs, until nothing is left or nothing is reached. Where much has to be settled for
 /// that, it begins anew at potentials that a coarse solution gives. No number of steps is claimed.
 pub fn solve(alloc: Global, net: &Network) -> Result<Solution, AllocError>
     ensures circulates { IfOk result (λ solution. IfSolved solution (λ flow potentials. IsCirculation net.now flow)) }
@@ -42,26 +40,13 @@ pub fn solve(alloc: Global, net: &Network) -> Result<Solution, AllocError>
     ensures none { IfOk result (λ solution. IfUnsat solution (λ marks. (flow : List ℕ) → IsCirculation net.now flow → ⊥)) }
     ensures marks { IfOk result (λ solution. IfUnsat solution (λ marks. length marks ≡ net.now.nodes)) }
 {
-    let links = links_of(alloc, net)?;
     let _nodes = net.nodes();
-    let mut state = match begin(alloc, net, &links)? {
-        Ok(state) => state,
-        Err(marks) => return Ok(Solution::Unsat { marks }),
-    };
-    let mut search = blank(alloc, net)?;
-    for source in 0..net.nodes() {
-        let drained = drain(net, &links, &mut state, &mut search, source)?;
-        if !drained {
-            return Ok(Solution::Unsat {
-                marks: search.settled,
-            });
-        }
+    let links = links_of(alloc, net)?;
+    match balanced(alloc, net, &links)? {
+        Ok(state) => Ok(Solution::Solved {
+            flow: state.flow,
+            potentials: state.potentials,
+        }),
+        Err(marks) => Ok(Solution::Unsat { marks }),
     }
-    Ok(Solution::Solved {
-        flow: state.flow,
-        potentials: state.potentials,
-    })
 }
-
-#[cfg(test)]
-mod tests;

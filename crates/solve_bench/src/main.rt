@@ -1,7 +1,10 @@
-//! Solves a network that is written as text on standard input, and prints the cost of a best circulation, or `unsat`.
+//! Solves networks that are written as text on standard input, and prints the cost of a best circulation of each, or
+//! `unsat`.
 //!
-//! The text is `NODES ARCS` and then `TAIL HEAD FLOOR ROOM COST` for each arc, with white space between the numbers.
-//! With the word `time`, the seconds of the solve alone go to standard error. It serves `bench/solve.sh`.
+//! The text of a network is `NODES ARCS` and then `TAIL HEAD FLOOR ROOM COST` for each arc, with white space between the
+//! numbers; an empty line stands between two networks. With the word `time`, the microseconds of each solve alone go to
+//! standard error. It serves `bench/solve.sh`. The stored run has the costs that `bench/plain_cost.py` finds; the last
+//! network there is contended enough for the coarse phase.
 #![tactic(auto)]
 
 use anyhow::{Context, bail};
@@ -49,15 +52,12 @@ fn cost_of(net: &Network, flow: &[u64]) -> i128 {
     cost
 }
 
-fn run(rt: &HostRuntime) -> anyhow::Result<()> {
+fn solve_one(rt: &HostRuntime, text: &str, timed: bool) -> anyhow::Result<()> {
     let alloc = rt.alloc();
-    let mut bytes = Vec::new(alloc);
-    rt.stdin().read_to_end(&mut bytes)?;
-    let (nodes, arcs) = read_arcs(alloc, str::from_utf8(bytes.as_slice())?)?;
+    let (nodes, arcs) = read_arcs(alloc, text)?;
     let Ok(net) = Network::new(nodes, arcs) else {
         bail!("the network is past its limits");
     };
-    let timed = env::args(rt)?.count() > 1;
     let start = Instant::now(rt)?;
     let solution = solve(alloc, &net)?;
     if timed {
@@ -70,6 +70,16 @@ fn run(rt: &HostRuntime) -> anyhow::Result<()> {
             potentials: _potentials,
         } => println!(rt; "{}", cost_of(&net, flow.as_slice()))?,
         Solution::Unsat { marks: _marks } => println!(rt; "unsat")?,
+    }
+    Ok(())
+}
+
+fn run(rt: &HostRuntime) -> anyhow::Result<()> {
+    let mut bytes = Vec::new(rt.alloc());
+    rt.stdin().read_to_end(&mut bytes)?;
+    let timed = env::args(rt)?.count() > 1;
+    for network in str::from_utf8(bytes.as_slice())?.split("\n\n") {
+        solve_one(rt, network, timed)?;
     }
     Ok(())
 }

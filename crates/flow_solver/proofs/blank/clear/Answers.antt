@@ -2,15 +2,15 @@ use Rattle.std.proofs.Common.{arith, inl, inr, subst}
 use Rattle.flow_solver.specs.Search.{IsCleared}
 use Rattle.flow_solver.proofs.blank.clear.Goals as goal
 
-pub forget_queue-requires-clause-distances_in : goal.forget_queue-requires-clause-distances_in
-forget_queue-requires-clause-distances_in c = λ d v waits.
+pub forget_waiting-requires-clause-distances_in : goal.forget_waiting-requires-clause-distances_in
+forget_waiting-requires-clause-distances_in c = λ d v waits.
     omega (arith, c.requires.queued d v waits, c.forget_tree.ensures.distances_long, c.requires.distances_long)
 
 pub returns : goal.returns
 returns c =
     let tree_cleared = rw c.deref.ensures.value at c.forget_tree.ensures.cleared in
     let long = c.forget_tree.ensures in
-    let after = c.forget_queue.ensures in
+    let after = c.forget_waiting.ensures in
     record {
       distances_long = omega (arith, after.distances_long, long.distances_long, c.requires.distances_long);
       reaches_long = c.requires.reaches_long;
@@ -23,5 +23,5 @@ returns c =
           | inr waits ↦ after.cleared waits.0 v waits.1
         ]
       ];
-      waiting = after.none;
+      waiting = c.clear-2.ensures.none;
     }

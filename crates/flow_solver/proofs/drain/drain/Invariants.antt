@@ -1,5 +1,5 @@
 use Rattle.std.proofs.Common.{ℕ}
-use Rattle.std.specs.Prelude.{pos, ◌≤ℤ◌}
+use Rattle.std.specs.Prelude.{pos, ◌≤ℤ◌, IsNone}
 use Rattle.flow_solver.specs.Search.{IsBlank}
 use Rattle.flow_solver.specs.State.{IsState, AreCalm, excess_at}
 use Rattle.flow_solver.proofs.Endings.{worth}
@@ -12,6 +12,7 @@ invariant-draining l = record {
   blank : IsBlank l.net l.search;
   calm : AreCalm l.net l.state.excess.items l.state.potentials.items;
   others : (v : ℕ) → excess_at l.initial.state.excess.items v ≤ℤ pos 0 → excess_at l.state.excess.items v ≤ℤ pos 0;
+  patient : IsNone l.initial.patience → IsNone l.patience;
 }
 
 abbrev pub decreases-draining : goal.decreases-draining

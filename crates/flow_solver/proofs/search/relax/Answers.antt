@@ -4,7 +4,7 @@ use Rattle.std.proofs.lemmas.List.{get_or_read}
 use Rattle.std.proofs.lemmas.Int.{ints}
 use Rattle.bounded_network.specs.Network.{arc_at}
 use Rattle.flow_solver.specs.Step.{end_of, left_on}
-use Rattle.flow_solver.specs.Search.{distance_at}
+use Rattle.flow_solver.specs.Search.{IsSearch, distance_at}
 use Rattle.std.specs.BinaryHeap.{heap_items}
 use Rattle.flow_solver.proofs.Bounds.{end_in, width_some}
 use Rattle.flow_solver.proofs.Settling.{tree_short}
@@ -41,8 +41,8 @@ lowered : (c : In_ok-note) → IsLowered c.args.search.now.distances.items c.not
 lowered c =
     rw c.in_ok-note.ensures.distances (to_lowered c.args.net.now c.args.state.now c.args.search.now.source c.args.search.now.node c.args.search.now.tree.items c.args.search.now.reaches.items c.args.search.now.distances.items c.args.search.now.settled.items (heap_items c.args.search.now.queue.waiting) c.arc_of-arc.ensures.kept c.requires.kept c.requires.search c.args.step c.requires.arc_in c.requires.starts (room c) c.end-to.result c.over-distance.result (to_is c) c.over-distance.ensures (lower c))
 
-pub returns-clause-search : goal.returns-clause-search
-returns-clause-search c =
+next : (c : In_ok-note) → IsSearch c.args.net.now c.args.state.now c.note.new.search
+next c =
     let same = c.in_ok-note.ensures.same in
     let is_tree = c.requires.search.is_tree in
     let last = width_some _ _ _ _ _ _ is_tree (length c.args.search.now.tree.items - 1) (omega (arith, is_tree.some)) in
@@ -53,17 +53,19 @@ returns-clause-search c =
     c.by-reach.result c.by-reach.ensures.node c.by-reach.ensures.from c.by-reach.ensures.step some width_left c.by-reach.ensures.narrow
     (heap_items c.note.new.search.queue.waiting) c.in_ok-note.ensures.added c.in_ok-note.ensures.kept c.in_ok-note.ensures.only)
 
-pub returns-clause-lower : goal.returns-clause-lower
-returns-clause-lower c = IsLowered-le _ _ _ _ (lowered c)
-
-pub returns-clause-stays : goal.returns-clause-stays
-returns-clause-stays c =
+stays : (c : In_ok-note) → distance_at c.note.new.search.distances.items c.args.search.now.node ≡ distance_at c.args.search.now.distances.items c.args.search.now.node
+stays c =
     (lowered c).others c.args.search.now.node (node_apart c.args.net.now c.args.state.now c.args.search.now.source c.args.search.now.node c.args.search.now.tree.items c.args.search.now.reaches.items c.args.search.now.distances.items c.args.search.now.settled.items (heap_items c.args.search.now.queue.waiting) c.arc_of-arc.ensures.kept c.requires.kept c.requires.search c.args.step c.requires.arc_in c.requires.starts (room c) c.end-to.result c.over-distance.result (to_is c) c.over-distance.ensures (lower c))
+
+pub returns-clause-relaxes : goal.returns-clause-relaxes
+returns-clause-relaxes c0 =
+    let c : In_ok-note = (goal.at.returns-clause-relaxes c0).In_ok-note in
+    record { same = c.in_ok-note.ensures.same; search = next c; lower = IsLowered-le _ _ _ _ (lowered c); stays = stays c }
 
 pub returns-clause-relaxed : goal.returns-clause-relaxed
 returns-clause-relaxed c = λ starts some.
     let new = c.note.new.search.distances.items in
     let at = (lowered c).at in
     let there : distance_at new c.end-to.result ≡ distance_at new (end_of (arc_at c.args.net.now c.args.step.arc) c.args.step.forward) = ap (distance_at new) (to_is c) in
-    let stays = returns-clause-stays c in
+    let stays = stays c in
     omega (arith, ints, at, there, stays, c.over-distance.ensures)

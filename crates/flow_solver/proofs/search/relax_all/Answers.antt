@@ -16,9 +16,9 @@ loop-bound-preserved c =
     let node = c.loop-bound.search.node in
     let before : IsRelaxedFrom net state old node (c.loop-bound.bound - 1 + 1) = subst (λ b. IsRelaxedFrom net state old node b) (sym place) was.relaxed in
     record {
-      same = SameTree-then c.args.search.now c.loop-bound.search c.relax_arc.new.search was.same done.same;
-      search = done.search;
+      same = SameTree-then c.args.search.now c.loop-bound.search c.relax_arc.new.search was.same done.relaxes.same;
+      search = done.relaxes.search;
       below = omega (arith, next.below, was.below);
       at = next.at;
-      relaxed = rw done.same.node (IsRelaxedFrom-more net state old new node (c.loop-bound.bound - 1) c.bound_before-bound.result done.lower done.stays done.relaxed (rw done.same.node at next) before);
+      relaxed = rw done.relaxes.same.node (IsRelaxedFrom-more net state old new node (c.loop-bound.bound - 1) c.bound_before-bound.result done.relaxes.lower done.relaxes.stays done.relaxed (rw done.relaxes.same.node at next) before);
     }

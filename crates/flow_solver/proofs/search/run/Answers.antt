@@ -48,7 +48,7 @@ returns-then-index-lt0-clause-found c =
     let e : c.index.result.now ≡ excess_at c.args.state.now.excess.items c.in-Some.node = get_or_read _ _ _ b c.index.ensures (pos 0) in
     record {
       search_kept = next before;
-      lacks = rw c.in_ok-settle.ensures.node (omega (arith, ints, e, c.if-index-lt0.true));
+      deficit = rw c.in_ok-settle.ensures.node (omega (arith, ints, e, c.if-index-lt0.true));
     }
 
 pub relax_all-requires-in-Some-clause-search : goal.relax_all-requires-in-Some-clause-search

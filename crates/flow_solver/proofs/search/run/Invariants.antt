@@ -4,7 +4,7 @@ use Rattle.flow_solver.specs.State.{excess_at}
 use Rattle.flow_solver.specs.Search.{IsSearch, IsRelaxedFrom}
 use Rattle.flow_solver.proofs.search.run.Given as goal
 
--- all steps from the settled nodes are relaxed, and none of them lacks anything
+-- all steps from the settled nodes are relaxed, and none of them has a deficit
 abbrev pub invariant-loop-node : goal.invariant-loop-node
 invariant-loop-node l = record {
   source : l.search.source ≡ l.initial.search.source;

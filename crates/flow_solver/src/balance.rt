@@ -1,0 +1,102 @@
+// From the first state to one that is balanced, or to marks that show that there is none.
+ghost use Rattle.std.specs.Prelude.{◌≡◌, Ok, IfOk, IfErr, IsNone};
+ghost use Rattle.flow_solver.specs.declared.balance.Balance.TheVariants.{GivenUp};
+ghost use Rattle.flow_solver.specs.Balance.{IsBalanced, AreExcluding, Balances};
+ghost use Rattle.flow_solver.specs.Links.{AreLinks};
+ghost use Rattle.flow_solver.specs.State.{IsState, AreCalm};
+
+use crate::blank::blank;
+use crate::coarse::coarse_potentials;
+use crate::cut::{is_violated, low_nodes};
+use crate::drain::{Outcome, drain};
+use crate::guess::first_potentials;
+use crate::links::Links;
+use crate::start::start_at;
+use crate::state::State;
+use bounded_network::Network;
+use std::alloc::{AllocError, Global};
+
+// How many nodes may be settled for each node and arc before a network counts as hard.
+const PATIENCE: usize = 2;
+
+/// What came of all excesses.
+#[derive(Drop)]
+pub enum Balance {
+    /// The state without an excess.
+    Even(State),
+    /// Marks of nodes that can't get rid of an excess.
+    Cut(Vec<bool>),
+    /// The patience was at its end.
+    GivenUp,
+}
+
+// Carries all excesses of the state away, for as long as the patience lasts.
+fn drain_all(
+    alloc: Global,
+    net: &Network,
+    links: &Links,
+    mut state: State,
+    mut patience: Option<usize>,
+) -> Result<Balance, AllocError>
+    requires kept { IsState net.now state.flow.items state.excess.items state.potentials.items }
+    requires calm { AreCalm net.now state.excess.items state.potentials.items }
+    requires links { AreLinks net.now links.now }
+    ensures balances { IfOk result (Balances net.now) }
+    ensures patient { IsNone patience → ¬ (result ≡ Ok GivenUp) }
+{
+    let mut search = blank(alloc, net)?;
+    for source in 0..net.nodes() {
+        match drain(net, links, &mut state, &mut search, source, &mut patience)? {
+            Outcome::Drained => {}
+            Outcome::Stuck => return Ok(Balance::Cut(search.settled)),
+            Outcome::GivenUp => return Ok(Balance::GivenUp),
+        }
+    }
+    Ok(Balance::Even(state))
+}
+
+// The same from the potentials of a coarse solution, which often shows at once that there is no circulation.
+fn balanced_anew(
+    alloc: Global,
+    net: &Network,
+    links: &Links,
+) -> Result<Result<State, Vec<bool>>, AllocError>
+    requires links { AreLinks net.now links.now }
+    ensures balanced { IfOk result (λ answer. IfOk answer (IsBalanced net.now)) }
+    ensures excluding { IfOk result (λ answer. IfErr answer (λ marks. AreExcluding net.now marks.items)) }
+{
+    let potentials = coarse_potentials(alloc, net, links)?;
+    let marks = low_nodes(alloc, &potentials)?;
+    let violated = is_violated(net, &marks);
+    if violated {
+        return Ok(Err(marks));
+    }
+    let state = start_at(alloc, net, potentials)?;
+    match drain_all(alloc, net, links, state, None)? {
+        Balance::Even(state) => Ok(Ok(state)),
+        Balance::Cut(marks) => Ok(Err(marks)),
+        Balance::GivenUp => unreachable!(),
+    }
+}
+
+/// A balanced state, or marks that show that there is none. It begins at plain potentials. Where little work isn't enough
+/// there, it begins anew at those of a coarse solution: they take longer to find, and the rest of the work is less.
+pub fn balanced(
+    alloc: Global,
+    net: &Network,
+    links: &Links,
+) -> Result<Result<State, Vec<bool>>, AllocError>
+    requires links { AreLinks net.now links.now }
+    ensures balanced { IfOk result (λ answer. IfOk answer (IsBalanced net.now)) }
+    ensures excluding { IfOk result (λ answer. IfErr answer (λ marks. AreExcluding net.now marks.items)) }
+{
+    let _nodes = net.nodes();
+    let potentials = first_potentials(alloc, net)?;
+    let state = start_at(alloc, net, potentials)?;
+    let patience = PATIENCE * (net.nodes() as usize + net.arcs().len());
+    match drain_all(alloc, net, links, state, Some(patience))? {
+        Balance::Even(state) => Ok(Ok(state)),
+        Balance::Cut(marks) => Ok(Err(marks)),
+        Balance::GivenUp => balanced_anew(alloc, net, links),
+    }
+}

@@ -1,0 +1,175 @@
+//! From rules to evidence: solves the network of each of the rules on standard input, and says what the evidence shows.
+//!
+//! The text of rules is `LIMIT PAPERS REVIEWERS PAIRS`, then the demand of each paper, then `INSTITUTION LEAST GREATEST` for
+//! each reviewer, where `-` is no institution, then `PAPER REVIEWER SCORE FLOOR CAP` for each pair, by their places, with white
+//! space between the words; an empty line stands between two rules. The answer is `best TOTAL` where the prices show that the
+//! shares are best, `violated` where the cut shows that no lottery fits, and `unproved` where neither shows anything.
+#![tactic(auto)]
+
+use anyhow::{Context, bail};
+use bounded_network::{Amounts, compile, cut_of, prices_of, shares_of};
+use dual_check::{is_best, is_violated};
+use flow_solver::{Solution, solve};
+use match_rules::{
+    Institution, PaperId, ReviewerId, RulePair, RulePaper, RuleReviewer, Rules, Shares, Sieve,
+};
+use std::alloc::{AllocError, Global};
+use std::io::Read;
+use std::str;
+use std::str::SplitAsciiWhitespace;
+
+// What the evidence shows.
+enum Shown {
+    Best { total: i128 },
+    Violated,
+    Nothing,
+}
+
+// The next number.
+fn number(words: &mut SplitAsciiWhitespace) -> anyhow::Result<i64> {
+    let word = words.next().context("a number is missing")?;
+    Ok(word.parse::<i64>()?)
+}
+
+fn small_number(words: &mut SplitAsciiWhitespace) -> anyhow::Result<u32> {
+    Ok(u32::try_from(number(words)?)?)
+}
+
+fn papers(
+    alloc: Global,
+    words: &mut SplitAsciiWhitespace,
+    count: u32,
+) -> anyhow::Result<Vec<RulePaper>> {
+    let mut papers = Vec::new(alloc);
+    for place in 0..count {
+        let name = format!(in alloc; "p{place:04}")?;
+        let Ok(id) = PaperId::read(alloc, name.as_str()) else {
+            bail!("{name} is no id");
+        };
+        papers.push(RulePaper {
+            id,
+            demand: small_number(words)?,
+        })?;
+    }
+    Ok(papers)
+}
+
+fn institution(alloc: Global, name: &str) -> anyhow::Result<Option<Institution>> {
+    if name == "-" {
+        return Ok(None);
+    }
+    let Ok(institution) = Institution::read(alloc, name) else {
+        bail!("{name} is no institution");
+    };
+    Ok(Some(institution))
+}
+
+fn reviewers(
+    alloc: Global,
+    words: &mut SplitAsciiWhitespace,
+    count: u32,
+) -> anyhow::Result<Vec<RuleReviewer>> {
+    let mut reviewers = Vec::new(alloc);
+    for place in 0..count {
+        let name = format!(in alloc; "r{place:04}")?;
+        let Ok(id) = ReviewerId::read(alloc, name.as_str()) else {
+            bail!("{name} is no id");
+        };
+        reviewers.push(RuleReviewer {
+            id,
+            institution: institution(alloc, words.next().context("an institution is missing")?)?,
+            least: small_number(words)?,
+            greatest: small_number(words)?,
+        })?;
+    }
+    Ok(reviewers)
+}
+
+fn pairs(
+    alloc: Global,
+    words: &mut SplitAsciiWhitespace,
+    count: u32,
+) -> anyhow::Result<Vec<RulePair>> {
+    let mut pairs = Vec::new(alloc);
+    for _ in 0..count {
+        pairs.push(RulePair {
+            paper: small_number(words)?,
+            reviewer: small_number(words)?,
+            score: number(words)?,
+            floor: small_number(words)?,
+            cap: small_number(words)?,
+        })?;
+    }
+    Ok(pairs)
+}
+
+fn read_rules(alloc: Global, text: &str) -> anyhow::Result<Rules> {
+    let mut words = text.split_ascii_whitespace();
+    let limit = small_number(&mut words)?;
+    let paper_count = small_number(&mut words)?;
+    let reviewer_count = small_number(&mut words)?;
+    let pair_count = small_number(&mut words)?;
+    let papers = papers(alloc, &mut words, paper_count)?;
+    let reviewers = reviewers(alloc, &mut words, reviewer_count)?;
+    let pairs = pairs(alloc, &mut words, pair_count)?;
+    let Ok(rules) = Rules::new(alloc, limit, papers, reviewers, pairs) else {
+        bail!("the rules are past a limit");
+    };
+    Ok(rules)
+}
+
+// The scores of the pairs, each times its share. It stays within 128 bits: shares are of 32 bits, and scores of 64.
+fn total_of(rules: &Rules, shares: &Shares) -> i128 {
+    let mut total: i128 = 0;
+    for (pair, share) in rules.pairs().iter().zip(shares.as_slice()) {
+        let part = i128::from(pair.score).wrapping_mul(i128::from(*share));
+        total = total.wrapping_add(part);
+    }
+    total
+}
+
+// Solves the network of the rules, and judges the evidence that it gives.
+fn show(alloc: Global, rules: &Rules) -> Result<Shown, AllocError> {
+    let net = compile(alloc, rules, Sieve::All, Amounts::Tickets)?;
+    match solve(alloc, &net)? {
+        Solution::Solved { flow, potentials } => {
+            let shares = shares_of(alloc, rules, Sieve::All, &flow)?;
+            let prices = prices_of(alloc, rules, Sieve::All, &potentials)?;
+            let total = total_of(rules, &shares);
+            let best = is_best(rules, Sieve::All, total, &prices);
+            Ok(if best {
+                Shown::Best { total }
+            } else {
+                Shown::Nothing
+            })
+        }
+        Solution::Unsat { marks } => {
+            let cut = cut_of(alloc, rules, Sieve::All, &marks)?;
+            let violated = is_violated(rules, Sieve::All, &cut);
+            Ok(if violated {
+                Shown::Violated
+            } else {
+                Shown::Nothing
+            })
+        }
+    }
+}
+
+fn run(rt: &HostRuntime) -> anyhow::Result<()> {
+    let alloc = rt.alloc();
+    let mut bytes = Vec::new(alloc);
+    rt.stdin().read_to_end(&mut bytes)?;
+    for text in str::from_utf8(bytes.as_slice())?.split("\n\n") {
+        let rules = read_rules(alloc, text)?;
+        match show(alloc, &rules)? {
+            Shown::Best { total } => println!(rt; "best {total}")?,
+            Shown::Violated => println!(rt; "violated")?,
+            Shown::Nothing => println!(rt; "unproved")?,
+        }
+    }
+    Ok(())
+}
+
+fn main(rt: HostRuntime) -> anyhow::Result<()> {
+    run(&rt)
+}
