@@ -2,8 +2,6 @@
 #![tactic(auto)]
 
 mod found;
-#[cfg(test)]
-mod tests;
 mod usage_text;
 mod words;
 

@@ -13,8 +13,6 @@ mod next;
 mod puts;
 mod rules;
 mod tables;
-#[cfg(test)]
-mod tests;
 mod venue;
 
 pub use edit::{Body, Edit, How, TableName};

@@ -5,13 +5,14 @@ use edge_io::{DirFolder, ReadSource, WriteSink};
 use matcher_cli::{Status, matcher};
 use std::alloc::AllocError;
 use std::env;
-use std::io::{BufWriter, Write};
+use std::io::{BufWriter, ErrorKind, Write};
 use std::process::ExitCode;
 
 // The words behind the program's name; none where one isn't text, since no such word is taken.
 fn words_of(rt: &HostRuntime) -> Result<Vec<String>, AllocError> {
     match env::args(rt) {
         Ok(words) => words.skip(1).collect(rt.alloc()),
+        Err(error) if error.kind() == ErrorKind::OutOfMemory => Err(AllocError),
         Err(_) => Ok(Vec::new(rt.alloc())),
     }
 }

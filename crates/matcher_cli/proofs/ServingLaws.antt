@@ -30,7 +30,7 @@ told_served Done files fault old new answer told = absurd told
 told_served Broken files fault old new answer told = told
 told_served Usage files fault old new answer told = told
 told_served ReadFault files fault old new answer told = tt
-told_served WriteFault files fault old new answer told = tt
+told_served WriteFault files fault old new answer told = rw (refused_rules files fault told.0 answer) told.1
 told_served Refused files fault old new answer told = (fault, refused_rules files fault told.0 answer, told.1)
 told_served Memory files fault old new answer told = tt
 

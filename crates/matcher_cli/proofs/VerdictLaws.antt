@@ -14,7 +14,7 @@ judges_checks Done bytes rules answer old new text judged = (rules, answer, text
 judges_checks Broken bytes rules answer old new text judged = (rules, answer, text, judged)
 judges_checks Usage bytes rules answer old new text judged = judged
 judges_checks ReadFault bytes rules answer old new text judged = tt
-judges_checks WriteFault bytes rules answer old new text judged = tt
+judges_checks WriteFault bytes rules answer old new text judged = inl (rules, answer, text, judged)
 judges_checks Refused bytes rules answer old new text judged = absurd judged
 judges_checks Memory bytes rules answer old new text judged = tt
 

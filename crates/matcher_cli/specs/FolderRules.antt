@@ -11,7 +11,7 @@ use Rattle.publication.specs.RulesText.{rules_text}
 use Rattle.matcher_cli.specs.declared.status.Status.{Status}
 use Rattle.matcher_cli.specs.declared.status.Status.TheVariants.{Done, Broken, Usage, ReadFault, WriteFault, Refused, Memory}
 use Rattle.matcher_cli.specs.Refusals.{refusal_text}
-use Rattle.matcher_cli.specs.Verdicts.{IsButForFaults, Written}
+use Rattle.matcher_cli.specs.Verdicts.{FrontWritten, IsButForFaults, Written}
 
 -- rules, or what is refused of a folder
 abbrev pub Answered : Type 0
@@ -29,13 +29,18 @@ rules_of_loaded (Err fault) = Err (load.Bad fault.0 fault.1 fault.2)
 unfoldable pub rules_in : List FileValue → Answered
 rules_in files = rules_of_loaded (venue_in files)
 
+-- the text that is due for rules, or for what is refused
+abbrev pub text_due : Answered → List ℕ
+text_due (Ok rules) = rules_text rules
+text_due (Err fault) = refusal_text fault
+
 -- what is answered and written for the files of a folder, by the status; old and new are what the sink has taken
 abbrev pub RulesServed : Status → List FileValue → List ℕ → Option (List ℕ) → Type 0
 RulesServed Done files old new = (rules : RulesValue) × (rules_in files ≡ Ok rules) × Written old new (rules_text rules)
 RulesServed Broken files old new = ⊥
 RulesServed Usage files old new = ⊥
 RulesServed ReadFault files old new = Unit {0}
-RulesServed WriteFault files old new = Unit {0}
+RulesServed WriteFault files old new = FrontWritten old new (text_due (rules_in files))
 RulesServed Refused files old new = (fault : LoadFault) × (rules_in files ≡ Err fault) × Written old new (refusal_text fault)
 RulesServed Memory files old new = Unit {0}
 
@@ -57,6 +62,6 @@ IsFaultTold Done fault old new = ⊥
 IsFaultTold Broken fault old new = ⊥
 IsFaultTold Usage fault old new = ⊥
 IsFaultTold ReadFault fault old new = fault ≡ load.Folder
-IsFaultTold WriteFault fault old new = Unit {0}
+IsFaultTold WriteFault fault old new = HasLine fault × FrontWritten old new (refusal_text fault)
 IsFaultTold Refused fault old new = HasLine fault × Written old new (refusal_text fault)
 IsFaultTold Memory fault old new = fault ≡ load.Memory

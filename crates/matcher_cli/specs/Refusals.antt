@@ -9,6 +9,7 @@ use Rattle.editions.specs.declared.fault.LimitFault.TheVariants as limit
 use Rattle.editions.specs.declared.fault.LoadFault.{LoadFault}
 use Rattle.editions.specs.declared.fault.LoadFault.TheVariants as load
 use Rattle.text_lines.specs.Labels.{labelled}
+use Rattle.matcher_cli.specs.Lines.{one_number}
 
 -- the word of a key of the settings
 abbrev pub key_word : Key → List ℕ
@@ -49,19 +50,15 @@ row_and_code row fault = ((labelled (codes " ") row ++ codes " ") ++ code_words 
 unfoldable pub row_line : List ℕ → ℕ → Code → List ℕ
 row_line file row fault = codes "refused " ++ (file ++ row_and_code row fault)
 
--- the line of a number of the rules
-unfoldable pub number_line : List ℕ → ℕ → List ℕ
-number_line label number = labelled label number ++ codes "\n"
-
 -- the line of a pair that is locked, and forbidden too
 unfoldable pub lock_line : List ℕ → List ℕ → List ℕ
 lock_line paper reviewer = (((codes "refused rules lock-forbidden " ++ paper) ++ codes " ") ++ reviewer) ++ codes "\n"
 
 -- the line of a limit that the rules pass
 abbrev pub limit_line : LimitFault → List ℕ
-limit_line (limit.TooMuchDemand sum) = number_line (codes "refused rules too-much-demand ") sum
+limit_line (limit.TooMuchDemand sum) = one_number (codes "refused rules too-much-demand ") sum
 limit_line (limit.LockForbidden paper reviewer) = lock_line paper reviewer
-limit_line (limit.TooManyPairs count) = number_line (codes "refused rules too-many-pairs ") count
+limit_line (limit.TooManyPairs count) = one_number (codes "refused rules too-many-pairs ") count
 
 -- the line of what is wrong with a folder; want of memory and a folder that failed have none
 abbrev pub refusal_text : LoadFault → List ℕ

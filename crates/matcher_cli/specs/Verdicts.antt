@@ -1,6 +1,6 @@
 -- What the check answers, and what it writes.
-use Rattle.std.specs.Prelude.{◌≡◌, ◌⊎◌, ℕ, List, ◌++◌, Option, Some, IsSome}
-use Rattle.edge_io.specs.Told.{told}
+use Rattle.std.specs.Prelude.{◌≡◌, ◌⊎◌, ℕ, List, ◌++◌, Option, None, Some, IsSome}
+use Rattle.edge_io.specs.Told.{told, GrowsByFront}
 use Rattle.match_rules.specs.declared.answer.Answer.{Answer}
 use Rattle.match_rules.specs.declared.breaks.Break.{Break}
 use Rattle.match_rules.specs.Rules.{RulesValue}
@@ -24,15 +24,38 @@ pub record IsBrokenBy (rules : RulesValue) (answer : Answer) (broken : Break) : 
 abbrev pub Written : List ℕ → Option (List ℕ) → List ℕ → Type 0
 Written old new line = IsSome new → told new ≡ old ++ line
 
+-- a front of the line was written behind what the sink had taken, where it tells that
+abbrev pub FrontWritten : List ℕ → Option (List ℕ) → List ℕ → Type 0
+FrontWritten old new line = IsSome new → GrowsByFront old (told new) line
+
+-- the line that is due for an answer, by its first broken clause
+abbrev pub line_of : Answer → Option Break → List ℕ
+line_of answer None = valid_line answer
+line_of answer (Some broken) = broken_line broken
+
+-- the line that is due for rules and an answer
+abbrev pub judged_line : RulesValue → Answer → List ℕ
+judged_line rules answer = line_of answer (check_break_of rules answer)
+
 -- what is answered and written for rules and an answer, by the status; old and new are what the sink has taken
 abbrev pub Judges : Status → RulesValue → Answer → List ℕ → Option (List ℕ) → Type 0
 Judges Done rules answer old new = Holds rules answer × Written old new (valid_line answer)
 Judges Broken rules answer old new = (broken : Break) × IsBrokenBy rules answer broken × Written old new (broken_line broken)
 Judges Usage rules answer old new = ⊥
 Judges ReadFault rules answer old new = ⊥
-Judges WriteFault rules answer old new = Unit {0}
+Judges WriteFault rules answer old new = FrontWritten old new (judged_line rules answer)
 Judges Refused rules answer old new = ⊥
 Judges Memory rules answer old new = Unit {0}
+
+-- bytes that are no such text
+abbrev pub IsNoText : List ℕ → Type 0
+IsNoText bytes = (rules : RulesValue) (answer : Answer) → ¬ (IsTextOf bytes rules answer)
+
+-- a front of the line that is due for the bytes was written
+abbrev pub FrontDue : List ℕ → List ℕ → Option (List ℕ) → Type 0
+FrontDue bytes old new =
+    ((rules : RulesValue) × (answer : Answer) × IsTextOf bytes rules answer × FrontWritten old new (judged_line rules answer))
+    ⊎ (IsNoText bytes × FrontWritten old new refused_line)
 
 -- what is answered and written for the bytes of a source, by the status
 abbrev pub Checks : Status → List ℕ → List ℕ → Option (List ℕ) → Type 0
@@ -40,8 +63,8 @@ Checks Done bytes old new = (rules : RulesValue) × (answer : Answer) × IsTextO
 Checks Broken bytes old new = (rules : RulesValue) × (answer : Answer) × IsTextOf bytes rules answer × Judges Broken rules answer old new
 Checks Usage bytes old new = ⊥
 Checks ReadFault bytes old new = Unit {0}
-Checks WriteFault bytes old new = Unit {0}
-Checks Refused bytes old new = ((rules : RulesValue) (answer : Answer) → ¬ (IsTextOf bytes rules answer)) × Written old new refused_line
+Checks WriteFault bytes old new = FrontDue bytes old new
+Checks Refused bytes old new = IsNoText bytes × Written old new refused_line
 Checks Memory bytes old new = Unit {0}
 
 -- a status that says nothing of the bytes: a fault of the source or the sink, or want of memory
@@ -62,4 +85,4 @@ IsButForFaults status result = (result ≡ status) ⊎ IsFault result
 pub record IsExact (bytes : List ℕ) (result : Status) : Type 0 where
   pub valid : (rules : RulesValue) (answer : Answer) → IsTextOf bytes rules answer → Holds rules answer → IsButForFaults Done result
   pub invalid : (rules : RulesValue) (answer : Answer) → IsTextOf bytes rules answer → ¬ (Holds rules answer) → IsButForFaults Broken result
-  pub no_text : ((rules : RulesValue) (answer : Answer) → ¬ (IsTextOf bytes rules answer)) → IsButForFaults Refused result
+  pub no_text : IsNoText bytes → IsButForFaults Refused result

@@ -5,7 +5,7 @@ ghost use Rattle.edge_io.specs.Files.{told_files};
 ghost use Rattle.edge_io.specs.Told.{told};
 ghost use Rattle.matcher_cli.specs.FolderRules.{IsFaultTold, IsServedExactly, RulesServed, rules_in};
 ghost use Rattle.matcher_cli.specs.Refusals.{refusal_text};
-ghost use Rattle.matcher_cli.specs.Verdicts.{Written};
+ghost use Rattle.matcher_cli.specs.Verdicts.{FrontWritten, Written};
 
 use crate::refusals::write_refusal;
 use crate::status::Status;
@@ -18,6 +18,7 @@ use std::alloc::Global;
 fn refuse_folder<K: Sink>(fault: &LoadFault, sink: &mut K) -> Status
     ensures status { (result ≡ Status.Refused) ⊎ (result ≡ Status.WriteFault) }
     ensures written { result ≡ Status.Refused → Written (told (K.taken sink.old)) (K.taken sink.new) (refusal_text fault.now) }
+    ensures front { result ≡ Status.WriteFault → FrontWritten (told (K.taken sink.old)) (K.taken sink.new) (refusal_text fault.now) }
     ensures cause { result ≡ Status.WriteFault → Rose (K.faults sink.old) (K.faults sink.new) }
 {
     match write_refusal(fault, sink) {

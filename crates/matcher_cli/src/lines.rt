@@ -7,7 +7,7 @@ use text_lines::LineBuffer;
 
 /// A labelled number and a line feed.
 #[tactic(auto, unfolding(crate::specs::Lines::one_number))]
-fn one_number(label: &[u8], number: u64) -> LineBuffer
+pub(crate) fn one_number(label: &[u8], number: u64) -> LineBuffer
     requires { length label.now ≤ 64 }
     ensures { result ≡ one_number label.now number }
 {

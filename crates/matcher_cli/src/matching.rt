@@ -8,7 +8,7 @@ ghost use Rattle.command_words.specs.Usage.{usage_text};
 ghost use Rattle.matcher_cli.specs.FolderRules.{IsServedExactly, RulesServed, rules_in};
 ghost use Rattle.matcher_cli.specs.Lines.{refused_line};
 ghost use Rattle.matcher_cli.specs.Words.{Asks, AsksNothing};
-ghost use Rattle.matcher_cli.specs.Verdicts.{IsExact, Judges, Checks, Written};
+ghost use Rattle.matcher_cli.specs.Verdicts.{IsExact, Judges, Checks, FrontWritten, Written};
 
 use crate::folder_rules::serve_rules;
 use crate::lines::{broken_line, valid_line};
@@ -45,6 +45,7 @@ fn judge<K: Sink>(alloc: Global, rules: &Rules, answer: &Answer, sink: &mut K) -
 fn refuse_words<K: Sink>(sink: &mut K) -> Status
     ensures status { (result ≡ Status.Usage) ⊎ (result ≡ Status.WriteFault) }
     ensures written { result ≡ Status.Usage → Written (told (K.taken sink.old)) (K.taken sink.new) usage_text }
+    ensures front { result ≡ Status.WriteFault → FrontWritten (told (K.taken sink.old)) (K.taken sink.new) usage_text }
     ensures cause { result ≡ Status.WriteFault → Rose (K.faults sink.old) (K.faults sink.new) }
 {
     match write_all(sink, usage()) {
@@ -58,6 +59,7 @@ fn refuse_words<K: Sink>(sink: &mut K) -> Status
 fn refuse_text<K: Sink>(sink: &mut K) -> Status
     ensures status { (result ≡ Status.Refused) ⊎ (result ≡ Status.WriteFault) }
     ensures written { result ≡ Status.Refused → Written (told (K.taken sink.old)) (K.taken sink.new) refused_line }
+    ensures front { result ≡ Status.WriteFault → FrontWritten (told (K.taken sink.old)) (K.taken sink.new) refused_line }
     ensures cause { result ≡ Status.WriteFault → Rose (K.faults sink.old) (K.faults sink.new) }
 {
     match write_all(sink, b"refused text\n") {
@@ -70,7 +72,7 @@ fn refuse_text<K: Sink>(sink: &mut K) -> Status
 fn check_text<S: Source, K: Sink>(alloc: Global, source: &mut S, sink: &mut K) -> Status
     ensures checks { IsSome (S.left source.new) → Checks result (told (S.left source.old)) (told (K.taken sink.old)) (K.taken sink.new) }
     ensures exact { IsSome (S.left source.new) → IsExact (told (S.left source.old)) result }
-    ensures end { IsSome (S.left source.new) → result ≡ Status.Done → told (S.left source.new) ≡ [] }
+    ensures end { IsSome (S.left source.new) → (result ≡ Status.Done) ⊎ (result ≡ Status.Broken) → told (S.left source.new) ≡ [] }
     ensures usage { result ≢ Status.Usage }
     ensures read_fault { result ≡ Status.ReadFault → Rose (S.faults source.old) (S.faults source.new) }
     ensures write_fault { result ≡ Status.WriteFault → Rose (K.faults sink.old) (K.faults sink.new) }
@@ -99,16 +101,18 @@ pub fn matcher<S: Source, K: Sink, F: Folder>(
     ensures usage { result ≡ Status.Usage → AsksNothing words.now }
     ensures refused_words { AsksNothing words.now → (result ≡ Status.Usage) ⊎ ((result ≡ Status.WriteFault) ⊎ (result ≡ Status.Memory)) }
     ensures usage_line { result ≡ Status.Usage → Written (told (K.taken sink.old)) (K.taken sink.new) usage_text }
+    ensures usage_front { AsksNothing words.now → result ≡ Status.WriteFault → FrontWritten (told (K.taken sink.old)) (K.taken sink.new) usage_text }
 
     // The check, where the source tells its bytes: 0 comes exactly where they are the text of rules and of a valid
-    // answer, 1 where it breaks a clause, with the line of the first, 6 where they are no such text.
+    // answer, 1 where it breaks a clause, with the line of the first, 6 where they are no such text. Where writing
+    // failed, a front of the line was written.
     ensures checks { IsSome (S.left source.new) → Asks words.now Command.Check → Checks result (told (S.left source.old)) (told (K.taken sink.old)) (K.taken sink.new) }
     ensures exact { IsSome (S.left source.new) → Asks words.now Command.Check → IsExact (told (S.left source.old)) result }
-    ensures end { IsSome (S.left source.new) → Asks words.now Command.Check → result ≡ Status.Done → told (S.left source.new) ≡ [] }
+    ensures end { IsSome (S.left source.new) → Asks words.now Command.Check → (result ≡ Status.Done) ⊎ (result ≡ Status.Broken) → told (S.left source.new) ≡ [] }
     ensures source_fault { Asks words.now Command.Check → result ≡ Status.ReadFault → Rose (S.faults source.old) (S.faults source.new) }
 
     // The rules, where the folder tells its files: 0 comes exactly where they make rules, with their text, 6 where they
-    // don't, with the line of the first that is wrong.
+    // don't, with the line of the first that is wrong. Where writing failed, a front of the text was written.
     ensures rules { IsSome (F.files folder.new) → Asks words.now Command.Rules → RulesServed result (told_files (F.files folder.old)) (told (K.taken sink.old)) (K.taken sink.new) }
     ensures exact_rules { IsSome (F.files folder.new) → Asks words.now Command.Rules → IsServedExactly (rules_in (told_files (F.files folder.old))) result }
     ensures folder_fault { Asks words.now Command.Rules → result ≡ Status.ReadFault → Rose (F.faults folder.old) (F.faults folder.new) }

@@ -3,8 +3,9 @@ ghost use Rattle.std.specs.Prelude.{◌≡◌, ◌+◌, ◌≤◌, ◌++◌, len
 ghost use Rattle.edge_io.specs.Counts.{HasCause};
 ghost use Rattle.edge_io.specs.Told.{AddsAll};
 ghost use Rattle.match_rules.specs.Id.{is_id};
-ghost use Rattle.matcher_cli.specs.Refusals.{code_words, row_and_code, row_line, number_line, lock_line, limit_line, refusal_text};
+ghost use Rattle.matcher_cli.specs.Refusals.{code_words, row_and_code, row_line, lock_line, limit_line, refusal_text};
 
+use crate::lines::one_number;
 use bid_import::{Code, Key};
 use edge_io::{Io, Sink, write_all};
 use editions::{LimitFault, LoadFault};
@@ -82,17 +83,6 @@ fn write_row<K: Sink>(file: &str, row: u64, code: Code, sink: &mut K) -> Result<
     write_from_name(file, row, code, sink)
 }
 
-#[tactic(auto, unfolding(crate::specs::Refusals::number_line))]
-fn number_line(label: &[u8], number: u64) -> LineBuffer
-    requires { length label.now ≤ 64 }
-    ensures { result ≡ number_line label.now number }
-{
-    let mut line = LineBuffer::new();
-    line.push_labelled(label, number);
-    line.push(b"\n");
-    line
-}
-
 fn push_id(line: &mut LineBuffer, id: &str)
     requires id { is_id id.now ≡ true }
     requires room { length line.old ≤ 300 }
@@ -121,12 +111,12 @@ fn limit_line(fault: &LimitFault) -> LineBuffer
     ensures { result ≡ limit_line fault.now }
 {
     match *fault {
-        LimitFault::TooMuchDemand { sum } => number_line(b"refused rules too-much-demand ", sum),
+        LimitFault::TooMuchDemand { sum } => one_number(b"refused rules too-much-demand ", sum),
         LimitFault::LockForbidden {
             ref paper,
             ref reviewer,
         } => lock_line(paper.text(), reviewer.text()),
-        LimitFault::TooManyPairs { count } => number_line(b"refused rules too-many-pairs ", count),
+        LimitFault::TooManyPairs { count } => one_number(b"refused rules too-many-pairs ", count),
     }
 }
 

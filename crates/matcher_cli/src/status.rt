@@ -5,17 +5,17 @@ ghost use Rattle.matcher_cli.specs.Codes.{code_of};
 /// How a run of the program ended; `code` is the exit status.
 #[derive(Debug, Clone, Copy, PartialEq, Eq)]
 pub enum Status {
-    /// The answer is valid.
+    /// What was asked is done: the answer is valid, or the rules are written.
     Done,
-    /// It breaks a clause: the line names the first.
+    /// The answer breaks a clause: the line names the first.
     Broken,
     /// The words aren't taken.
     Usage,
-    /// Reading failed.
+    /// Reading the input or a file failed.
     ReadFault,
     /// Writing failed.
     WriteFault,
-    /// The text is no certificate.
+    /// The input is no certificate, or the files make no rules.
     Refused,
     /// Memory was wanting.
     Memory,

@@ -23,3 +23,7 @@ returns-clause-exact g c = λ tells.
     served_exact c.tell_fault.result (told_files (g.F.Folder.files c.args.folder.now)) (told (g.K.Sink.taken c.args.sink.now)) (g.K.Sink.taken c.tell_fault.new.sink)
     (told_served c.tell_fault.result (told_files (g.F.Folder.files c.args.folder.now)) c.in-Err.fault (told (g.K.Sink.taken c.args.sink.now)) (g.K.Sink.taken c.tell_fault.new.sink)
     (c.in-Err.ensures.reads.answer tells) c.tell_fault.ensures.told)
+
+pub returns-in-Ok-clause-served : goal.returns-in-Ok-clause-served
+returns-in-Ok-clause-served g c = λ tells.
+    rw (loaded_rules (told_files (g.F.Folder.files c.args.folder.now)) c.in-Ok.edited (c.in-Ok.ensures.reads.answer tells)) c.in-Err-write_rules.ensures.taken.bytes

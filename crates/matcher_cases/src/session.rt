@@ -1,0 +1,86 @@
+// The case that is being read.
+
+use crate::edits::make_edits;
+use crate::parts::{begin, double, drop_byte, push_each, push_line, put_text};
+use crate::words::{Failing, run_words};
+use anyhow::bail;
+use edge_io::MemoryFile;
+use std::alloc::Global;
+use std::mem;
+
+/// The texts that were kept, and the case that is being read.
+#[derive(Drop)]
+pub(crate) struct Session {
+    texts: Vec<MemoryFile>,
+    parts: Vec<MemoryFile>,
+    words: Vec<String>,
+    failing: Failing,
+}
+
+impl Session {
+    /// A session before its first case.
+    pub(crate) fn new(alloc: Global) -> Self {
+        Session {
+            texts: Vec::new(alloc),
+            parts: Vec::new(alloc),
+            words: Vec::new(alloc),
+            failing: Failing::new(alloc),
+        }
+    }
+
+    // The parts that were read; the next case has none of them.
+    fn taken(&mut self, alloc: Global) -> Vec<MemoryFile> {
+        mem::replace(&mut self.parts, Vec::new(alloc))
+    }
+
+    fn keep(&mut self, alloc: Global) -> anyhow::Result<()> {
+        for part in self.taken(alloc) {
+            self.texts.push(part)?;
+        }
+        Ok(())
+    }
+
+    fn run(&mut self, rt: &HostRuntime) -> anyhow::Result<()> {
+        let alloc = rt.alloc();
+        let parts = self.taken(alloc);
+        let words = mem::replace(&mut self.words, Vec::new(alloc));
+        let failing = mem::replace(&mut self.failing, Failing::new(alloc));
+        run_words(rt, words.as_slice(), parts, failing)
+    }
+
+    fn take_word(&mut self, alloc: Global, word: &str) -> anyhow::Result<()> {
+        self.words.push(String::from_str(alloc, word)?)?;
+        Ok(())
+    }
+
+    // Takes a line that belongs to a part.
+    fn take_part(&mut self, alloc: Global, word: &str, rest: &str) -> anyhow::Result<()> {
+        match word {
+            "" => push_line(&mut self.parts, rest),
+            "put" => put_text(&mut self.parts, self.texts.as_slice(), rest),
+            "each" => push_each(alloc, &mut self.parts, rest),
+            "double" => double(alloc, &mut self.parts, rest),
+            "shorten" => drop_byte(&mut self.parts),
+            "text" | "input" | "file" | "edit" => begin(alloc, &mut self.parts, rest),
+            _ => bail!("{word} is no word of a case"),
+        }
+    }
+
+    /// Does what a line says.
+    pub(crate) fn take_line(&mut self, rt: &HostRuntime, line: &str) -> anyhow::Result<()> {
+        let alloc = rt.alloc();
+        let (word, rest) = line.split_once(' ').unwrap_or((line, ""));
+        match word {
+            "case" => println!(rt; "case {rest}")?,
+            "word" => self.take_word(alloc, rest)?,
+            "failing-read" => self.failing.reads.push(rest.parse::<u64>()?)?,
+            "failing-file" => self.failing.files.push(rest.parse::<u64>()?)?,
+            "failing-write" => self.failing.writes.push(rest.parse::<u64>()?)?,
+            "keep" => self.keep(alloc)?,
+            "run" => self.run(rt)?,
+            "apply" => make_edits(rt, self.taken(alloc).as_slice())?,
+            _ => self.take_part(alloc, word, rest)?,
+        }
+        Ok(())
+    }
+}
