@@ -1,5 +1,6 @@
 -- What contracts see of a pass, and the words for what a turn adds to the past.
-use Rattle.std.specs.Prelude.{ℕ, ◌-◌, List, length, Option, range_with_len, nat_lt, if◌then◌else◌}
+use Rattle.std.specs.Prelude.{ℕ, ◌-◌, List, length, Option, nat_lt, if◌then◌else◌}
+use Rattle.std.specs.List.{range_with_len}
 use Rattle.atomic_table.specs.Seated.{TableId}
 
 -- A pass of the lock `lock` has seen a past. It may take `turns` more turns and took `taken`, which added entries at the places `made`.

@@ -43,29 +43,30 @@ module _ {E : Type 0} where
   abbrev pub settled : View E → List E → View E
   settled v told = record { seen = longer v.seen told; turns = v.turns; taken = v.taken; made = v.made; stage = Idle }
 
-module _ {S E : Type 0} where
-  abbrev Seated : Type 0
-  Seated = Me (Option S) (View E)
+  -- of two lists one begins with the other, and both begin the longer
+  abbrev pub Meets : List E → List E → Type 0
+  Meets seen told = (IsPrefix seen told ⊎ IsPrefix told seen) × IsPrefix seen (longer seen told) × IsPrefix told (longer seen told)
 
-  abbrev pub draws : Step (Option S) → Seated → ℕ → Seated → Type 0
+abbrev Seated : Type 0 → Type 0 → Type 0
+Seated S E = Me (Option S) (View E)
+
+module _ {S E : Type 0} where
+  abbrev pub draws : Step (Option S) → Seated S E → ℕ → Seated S E → Type 0
   draws st m found m' = m' ≡ (with_ticket m.0 found, m.1)
 
   -- at its own ticket it has the value in its hand, whose past begins with what it has seen
-  abbrev pub Finds : (S → List E) → Seated → ℕ → Seated → Type 0
+  abbrev pub Finds : (S → List E) → Seated S E → ℕ → Seated S E → Type 0
   Finds past_of m ticket m' = (value : S) × (m' ≡ (at_stage m.0 (Holds ticket (past_of value)), (0, Some value) ∷ m.1)) × IsPrefix m.0.seen (past_of value)
 
-  abbrev pub looks : (S → List E) → Step (Option S) → Seated → ℕ → Seated → Type 0
+  abbrev pub looks : (S → List E) → Step (Option S) → Seated S E → ℕ → Seated S E → Type 0
   looks past_of st m found m' = (ticket : ℕ) → m.0.stage ≡ Waits ticket → (found ≡ ticket → Finds past_of m ticket m') × (found ≢ ticket → m' ≡ m)
 
-  abbrev pub stores : (S → List E) → Step (Option S) → Seated → ℕ → Seated → Type 0
-  stores past_of st m found m' = (ticket : ℕ) (taken : List E) (value : S) → m.0.stage ≡ Holds ticket taken → m.1 ≡ (0, Some value) ∷ [] → m' ≡ (with_past m.0 ticket taken (past_of value), m.1)
+  abbrev pub stores : (S → List E) → Step (Option S) → Seated S E → ℕ → Seated S E → Type 0
+  stores past_of st m found m' =
+      (ticket : ℕ) (taken : List E) (value : S) → m.0.stage ≡ Holds ticket taken → m.1 ≡ (0, Some value) ∷ [] → m' ≡ (with_past m.0 ticket taken (past_of value), m.1)
 
-  abbrev pub passes : Step (Option S) → Seated → ℕ → Seated → Type 0
+  abbrev pub passes : Step (Option S) → Seated S E → ℕ → Seated S E → Type 0
   passes st m found m' = m' ≡ (at_stage m.0 Idle, rest m.1)
 
-  -- of the two lists one begins with the other
-  abbrev pub Meets : View E → List E → Type 0
-  Meets v told = (IsPrefix v.seen told ⊎ IsPrefix told v.seen) × IsPrefix v.seen (longer v.seen told) × IsPrefix told (longer v.seen told)
-
-  abbrev pub settles : Step (Option S) → Seated → ℕ → Seated → Type 0
-  settles st m found m' = (told : List E) → m.0.stage ≡ Joined told → (m' ≡ (settled m.0 told, m.1)) × Meets m.0 told × (m.0.turns ≤ 2 ^ 62)
+  abbrev pub settles : Step (Option S) → Seated S E → ℕ → Seated S E → Type 0
+  settles st m found m' = (told : List E) → m.0.stage ≡ Joined told → (m' ≡ (settled m.0 told, m.1)) × Meets m.0.seen told × (m.0.turns ≤ 2 ^ 62)

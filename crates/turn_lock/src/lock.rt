@@ -1,5 +1,5 @@
 //! The lock, and its calls.
-ghost use Rattle.std.specs.Prelude.{◌≡◌, ◌≢◌, ◌+◌, ◌-◌, ◌/◌, ◌^◌, ◌⊎◌, ◌↔◌, [], ◌++◌, Option, Some, None, IfOk, IfErr, OnErr, IsErr, IfSome, IsSomeAnd, IsNone};
+ghost use Rattle.std.specs.Prelude.{◌≡◌, ◌≢◌, ◌+◌, ◌-◌, ◌/◌, ◌^◌, ◌⊎◌, ◌↔◌, [], ◌∷◌, ◌++◌, Option, Some, None, IfOk, IfErr, OnErr, IsErr, IfSome, IsSomeAnd, IsNone};
 ghost use mathlib.Core.List.{IsPrefix};
 ghost use Rattle.turn_lock.specs.Passes.{new_places, longer};
 
