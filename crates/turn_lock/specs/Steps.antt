@@ -5,7 +5,8 @@ use Rattle.atomic_table.specs.Table.{Me, Step, rest}
 use Rattle.turn_lock.specs.declared.view.View.{View}
 use Rattle.turn_lock.specs.declared.view.Stage.{Stage}
 use Rattle.turn_lock.specs.declared.view.Stage.TheVariants.{Idle, Joined, Waits, Holds, Stored}
-use Rattle.turn_lock.specs.Passes.{new_places, longer}
+use Rattle.atomic_table.specs.Seated.{TableId}
+use Rattle.turn_lock.specs.Passes.{PassValue, new_places, longer}
 
 module _ {E : Type 0} where
   -- the past that was taken, where the seat has the turn and has not stored
@@ -15,6 +16,10 @@ module _ {E : Type 0} where
   held_of (Waits ticket) = None
   held_of (Holds ticket taken) = Some taken
   held_of (Stored ticket) = None
+
+  -- what contracts see of a pass whose seat at this table has this view
+  abbrev pub pass_value : TableId → View E → PassValue E
+  pass_value lock v = record { lock = lock; seen = v.seen; turns = v.turns; taken = v.taken; made = v.made; held = held_of v.stage }
 
   abbrev pub at_stage : View E → Stage E → View E
   at_stage v stage = record { seen = v.seen; turns = v.turns; taken = v.taken; made = v.made; stage = stage }

@@ -19,10 +19,10 @@ impl<V: Grows> Model for Pass<V> {
     ghost Value = { PassValue V.Entry };
 
     ghost use Rattle.std.specs.Prelude.{◌≡◌};
-    ghost use Rattle.turn_lock.specs.Steps.{held_of};
+    ghost use Rattle.turn_lock.specs.Steps.{pass_value};
     ghost use Rattle.turn_lock.specs.Hands.{Rests};
 
-    ghost view = { λ p. record { lock = p.seat.table_id; seen = p.seat.me.0.seen; turns = p.seat.me.0.turns; taken = p.seat.me.0.taken; made = p.seat.me.0.made; held = held_of p.seat.me.0.stage } };
+    ghost view = { λ p. pass_value p.seat.table_id p.seat.me.0 };
 
     ghost invariant = { λ p. (p.turns ≡ p.seat.me.0.turns) × V.lawful p.seat.me.0.seen × Rests p.seat.me.0.stage p.seat.me.1 };
 }
