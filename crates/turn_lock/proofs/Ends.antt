@@ -40,10 +40,10 @@ module _ {S E : Type 0} (past_of : S → List E) where
     all_served : r.next ≡ r.serving → IsHome past_of r.past s.homes
     all_served even = ⊎_elim (λ h. h)
         (λ o.
-            let u = o.1.1 in
-            let t = turn_from r.past s.homes r.serving r.next r.owner o.1.0 u u.stage o.1.3 (r.each o.1.0 u o.1.2).1 in
-            let waits = t.1.0.waits in
-            let drawn = t.1.0.drawn in absurd (omega arith))
+        let u = o.1.1 in
+        let t = turn_from r.past s.homes r.serving r.next r.owner o.1.0 u u.stage o.1.3 (r.each o.1.0 u o.1.2).1 in
+        let waits = t.1.0.waits in
+        let drawn = t.1.0.drawn in absurd (omega arith))
         r.placed
 
     -- where one was not, another pass took a turn
@@ -58,8 +58,8 @@ module _ {S E : Type 0} (past_of : S → List E) where
         let took : 0 < u.taken = drawn_from r.past s.homes r.serving r.next r.owner j u u.stage t.3 (r.each j u t.2).1 in
         let waits : 1 ≤ queued u.stage = t.3 in
         let ne : id ≢ j = λ (e : id ≡ j).
-          let same : v ≡ u = some-injective v u (sym at ∙ (ap (get_elem? s.views) e ∙ t.2)) in
-          let none : queued u.stage ≡ 0 = ap (λ (z : View E). queued z.stage) (sym same) ∙ ap queued idle in omega arith in
+        let same : v ≡ u = some-injective v u (sym at ∙ (ap (get_elem? s.views) e ∙ t.2)) in
+        let none : queued u.stage ≡ 0 = ap (λ (z : View E). queued z.stage) (sym same) ∙ ap queued idle in omega arith in
         let turns' = sum_at_two turns_of s.views id j v u ne at t.2 in
         let taken' = sum_at_two taken_of s.views id j v u ne at t.2 in
         omega arith

@@ -60,18 +60,18 @@ module _ {S E : Type 0} (past_of : S → List E) where
           placed = inr (is_out past_of r.past s.homes s.views turn.0.2 r.placed, (id, w, set_at s.views id v w at, refl));
           each = each_after (Fits r.past s.homes r.serving r.next r.owner) (Fits given s.homes r.serving r.next r.owner) s.views id w r.each (prefix_self given, (turn.0, refl))
               (λ j u ne f. fits_after r.past given s.homes s.homes r.serving r.serving r.next r.next r.owner r.owner j u (subst (λ (p : List E). IsPrefix p given) turn.1 grows) (λ t d. d)
-                  (λ t h. absurd (no_other past_of s r id j u t own ne h)) f);
+              (λ t h. absurd (no_other past_of s r id j u t own ne h)) f);
           queue = omega arith;
           taken = omega arith;
           turns = omega arith;
         },
         λ t p x is hand'.
-          let e : Holds ticket taken ≡ Holds t p = sym holds ∙ is in
-          let e' : hand_with value ≡ hand_with x = sym hand ∙ hand' in
-          let ticket_is : ticket ≡ t = cc in
-          let taken_is : taken ≡ p = cc in
-          let value_is : value ≡ x = ap (value_first value) e' in
-          λ k. (with_past v (ticket_is k) (taken_is k) (past_of (value_is k)), m.1),
+            let e : Holds ticket taken ≡ Holds t p = sym holds ∙ is in
+            let e' : hand_with value ≡ hand_with x = sym hand ∙ hand' in
+            let ticket_is : ticket ≡ t = cc in
+            let taken_is : taken ≡ p = cc in
+            let value_is : value ≡ x = ap (value_first value) e' in
+            λ k. (with_past v (ticket_is k) (taken_is k) (past_of (value_is k)), m.1),
       )
 
   -- the seat's hand is the slot with the value
@@ -107,7 +107,7 @@ module _ {S E : Type 0} (past_of : S → List E) where
           placed = inl (value, home, seen_is ∙ turn.1);
           each = each_after (Fits r.past s.homes r.serving r.next r.owner) (Fits r.past homes' (r.serving + 1) r.next r.owner) s.views id w r.each ((r.each id v at).0, tt)
               (λ j u ne f. fits_after r.past r.past s.homes homes' r.serving (r.serving + 1) r.next r.next r.owner r.owner j u (prefix_self r.past) (still_waits r.serving r.next r.owner id j u.taken own ne)
-                  (λ t h. absurd (no_other past_of s r id j u t own ne h)) f);
+              (λ t h. absurd (no_other past_of s r id j u t own ne h)) f);
           queue = omega arith;
           taken = omega arith;
           turns = omega arith;

@@ -61,8 +61,8 @@ module _ {S E : Type 0} where
   pub out_after : (homes : List (maybe.Option (Option S))) (views : List (View E)) (id : ℕ) (v w : View E) → get_elem? views id ≡ some v → has_turn v.stage ≡ false → IsOut homes views → IsOut homes (set views id w)
   out_after homes views id v w at idle out =
       let ne : out.1.0 ≢ id = λ (e : out.1.0 ≡ id).
-        let same : out.1.1 ≡ v = some-injective out.1.1 v (sym out.1.2 ∙ (ap (get_elem? views) e ∙ at)) in
-        let no : true ≡ false = sym out.1.3 ∙ (ap (λ (z : View E). has_turn z.stage) same ∙ idle) in cc in
+      let same : out.1.1 ≡ v = some-injective out.1.1 v (sym out.1.2 ∙ (ap (get_elem? views) e ∙ at)) in
+      let no : true ≡ false = sym out.1.3 ∙ (ap (λ (z : View E). has_turn z.stage) same ∙ idle) in cc in
       (out.0, (out.1.0, out.1.1, set_else views id out.1.0 w ne ∙ out.1.2, out.1.3))
 
 module _ {S E : Type 0} (past_of : S → List E) where
@@ -92,11 +92,11 @@ module _ {S E : Type 0} (past_of : S → List E) where
     pub is_home : (id : ℕ) (v : View E) → get_elem? s.views id ≡ some v → has_turn v.stage ≡ false → r.owner r.serving ≡ id → IsHome past_of r.past s.homes
     is_home id v at idle own = ⊎_elim (λ h. h)
         (λ o.
-            let j = o.1.0 in let u = o.1.1 in
-            let t = turn_from r.past s.homes r.serving r.next r.owner j u u.stage o.1.3 (r.each j u o.1.2).1 in
-            let e : j ≡ id = sym t.1.0.own ∙ (ap r.owner t.1.1 ∙ own) in
-            let same : u ≡ v = some-injective u v (sym o.1.2 ∙ (ap (get_elem? s.views) e ∙ at)) in
-            let no : true ≡ false = sym o.1.3 ∙ (ap (λ (z : View E). has_turn z.stage) same ∙ idle) in absurd (cc))
+        let j = o.1.0 in let u = o.1.1 in
+        let t = turn_from r.past s.homes r.serving r.next r.owner j u u.stage o.1.3 (r.each j u o.1.2).1 in
+        let e : j ≡ id = sym t.1.0.own ∙ (ap r.owner t.1.1 ∙ own) in
+        let same : u ≡ v = some-injective u v (sym o.1.2 ∙ (ap (get_elem? s.views) e ∙ at)) in
+        let no : true ≡ false = sym o.1.3 ∙ (ap (λ (z : View E). has_turn z.stage) same ∙ idle) in absurd (cc))
         r.placed
 
     -- a look that changes nothing

@@ -23,7 +23,7 @@ module _ {S E : Type 0} (past_of : S → List E) where
       let seen = (r.each id v at).0 in
       let views' = set s.views id left in
       let each' = each_after (Fits r.past s.homes r.serving r.next r.owner) (Fits r.past s.homes r.serving r.next r.owner) s.views id left r.each
-          (seen, subst (Stands r.past s.homes r.serving r.next r.owner id left) (sym idle) tt) (λ j u ne f. f) in
+      (seen, subst (Stands r.past s.homes r.serving r.next r.owner id left) (sym idle) tt) (λ j u ne f. f) in
       let turns' = sum_after turns_of s.views id v left at in
       let taken' = sum_after taken_of s.views id v left at in
       let queued' = sum_after queued_of s.views id v left at in
@@ -109,7 +109,7 @@ module _ {S E : Type 0} (past_of : S → List E) where
           turns = omega arith;
         },
         λ told' is.
-          let e : Joined told ≡ Joined told' = sym joined ∙ is in
-          let same : told ≡ told' = cc in
-          (ap (λ (xs : List E). (settled v xs, m.1)) same, subst (λ (xs : List E). Rattle.turn_lock.specs.Steps.Meets v.seen xs) same meets.0, few),
+            let e : Joined told ≡ Joined told' = sym joined ∙ is in
+            let same : told ≡ told' = cc in
+            (ap (λ (xs : List E). (settled v xs, m.1)) same, subst (λ (xs : List E). Rattle.turn_lock.specs.Steps.Meets v.seen xs) same meets.0, few),
       )

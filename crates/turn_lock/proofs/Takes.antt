@@ -63,7 +63,7 @@ module _ {S E : Type 0} (past_of : S → List E) where
           placed = placed_after past_of r.past s.homes s.views id v w at (ap has_turn idle) r.placed;
           each = each_after (Fits r.past s.homes r.serving r.next r.owner) (Fits r.past s.homes r.serving (r.next + 1) owner') s.views id w r.each ((r.each id v at).0, here)
               (λ j u ne f. fits_after r.past r.past s.homes s.homes r.serving r.serving r.next (r.next + 1) r.owner owner' j u (prefix_self r.past) (later r.serving r.next r.owner id j u.taken)
-                  (λ t h. ((later r.serving r.next r.owner id j u.taken t h.0, h.1, h.2), refl)) f);
+              (λ t h. ((later r.serving r.next r.owner id j u.taken t h.0, h.1, h.2), refl)) f);
           queue = omega arith;
           taken = omega arith;
           turns = omega arith;
@@ -108,17 +108,16 @@ module _ {S E : Type 0} (past_of : S → List E) where
           each = each_after (Fits r.past s.homes r.serving r.next r.owner) (Fits r.past homes' r.serving r.next r.owner) s.views id w r.each
               ((r.each id v at).0, ((drawn, served, ap (λ hs. get_elem? hs 0) out), home.2))
               (λ j u ne f. fits_after r.past r.past s.homes homes' r.serving r.serving r.next r.next r.owner r.owner j u (prefix_self r.past) (λ t d. d)
-                  (λ t h. absurd (no_other past_of s r id j u t own ne h)) f);
+              (λ t h. absurd (no_other past_of s r id j u t own ne h)) f);
           queue = omega arith;
           taken = omega arith;
           turns = omega arith;
         },
         λ t is.
-          let same : ticket ≡ t = let e : Waits ticket ≡ Waits t = sym waits ∙ is in cc in
-          (
-            (λ _. (value, ap (λ (k : ℕ). (at_stage v (Holds k (past_of value)), (0, Some value) ∷ m.1)) same, subst (IsPrefix v.seen) (sym home.2) (r.each id v at).0)),
-            λ miss. absurd (miss (hit ∙ same)),
-          ),
+            let same : ticket ≡ t = let e : Waits ticket ≡ Waits t = sym waits ∙ is in cc in (
+              (λ _. (value, ap (λ (k : ℕ). (at_stage v (Holds k (past_of value)), (0, Some value) ∷ m.1)) same, subst (IsPrefix v.seen) (sym home.2) (r.each id v at).0)),
+              λ miss. absurd (miss (hit ∙ same)),
+            ),
       )
 
   pub looks_ok : (slots id : ℕ) (m : Me (Option S) (View E)) (ticket : ℕ) → m.0.stage ≡ Waits ticket → Allows (Kept past_of) slots id m 2 (λ n. n) (looks past_of (step slots 2 0 0 none) m)
@@ -130,6 +129,6 @@ module _ {S E : Type 0} (past_of : S → List E) where
         tt,
         unmoved past_of s r 2 found id m.0 at (ap (λ ws. slice_set ws 2 (slice_index ws 2)) r.words ∙ sym r.words),
         λ t is.
-          let same : ticket ≡ t = let e : Waits ticket ≡ Waits t = sym waits ∙ is in cc in
-          ((λ hit. absurd (miss (hit ∙ sym same))), λ _. refl),
+            let same : ticket ≡ t = let e : Waits ticket ≡ Waits t = sym waits ∙ is in cc in
+            ((λ hit. absurd (miss (hit ∙ sym same))), λ _. refl),
       ))

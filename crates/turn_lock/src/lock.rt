@@ -59,7 +59,9 @@ impl<V: Grows> TurnLock<V> {
         let mut slots = Vec::new(alloc);
         if let Err(AllocFailed { value }) = slots.push(Some(value)) {
             slots.destroy_empty();
-            return Err(NoRoom { value: value.unwrap() });
+            return Err(NoRoom {
+                value: value.unwrap(),
+            });
         }
         match Table::new(alloc, &[length, 0, 0], slots, &about) {
             Ok((table, seat)) => Ok(Made {

@@ -17,12 +17,7 @@ pub(crate) const TICKET: usize = 1;
 pub(crate) const SERVING: usize = 2;
 
 // Waits until the ticket is served, and takes the slot into the seat's hand.
-pub(crate) fn wait<V: Grows, R: Wait>(
-    rt: &R,
-    board: &Steps<V>,
-    seat: &mut Place<V>,
-    ticket: u64,
-)
+pub(crate) fn wait<V: Grows, R: Wait>(rt: &R, board: &Steps<V>, seat: &mut Place<V>, ticket: u64)
     requires table { seat.old.table_id ≡ board.now.table_id }
     requires sized { (board.now.table_id.words ≡ 3) × (board.now.table_id.slots ≡ 1) }
     requires waits { seat.old.me.0.stage ≡ Waits ticket }

@@ -40,5 +40,5 @@ returns g c =
     let told = c.store.ensures.2 held.0 held.1 c.args.value (ap (λ m. m.0.stage) now ∙ held.2) (ap (λ m. m.1) now) in
     let last = c.fetch_add.ensures.2 in
     some_case _ _ held.1 (sym (ap (λ p. p.held) c.pass.view_is) ∙ ap held_of held.2)
-        (given_value _ _ c.pass.inside.seat.me.0 _ _ held.0 held.1 (g.V.Grows.past c.args.value) c.pass.view_is (c.fetch_add.ensures.0 ∙ (c.store.ensures.0 ∙ c.hand_in.ensures.table))
-            (ap (λ m. m.0) last ∙ (ap (λ m. at_stage m.0 Idle) told ∙ ap (λ m. at_stage (with_past m.0 held.0 held.1 (g.V.Grows.past c.args.value)) Idle) now)))
+    (given_value _ _ c.pass.inside.seat.me.0 _ _ held.0 held.1 (g.V.Grows.past c.args.value) c.pass.view_is (c.fetch_add.ensures.0 ∙ (c.store.ensures.0 ∙ c.hand_in.ensures.table))
+    (ap (λ m. m.0) last ∙ (ap (λ m. at_stage m.0 Idle) told ∙ ap (λ m. at_stage (with_past m.0 held.0 held.1 (g.V.Grows.past c.args.value)) Idle) now)))

@@ -31,7 +31,7 @@ pub invariant_of-pass : goal.invariant_of-pass
 invariant_of-pass g c =
     let told = c.load.ensures.2 c.other.inside.seat.me.0.seen (ap (λ m. m.0.stage) c.join_seat.ensures.2) in
     let seen_is : c.load.new.seat.me.0.seen ≡ longer c.pass.inside.seat.me.0.seen c.other.inside.seat.me.0.seen =
-        ap (λ m. m.0.seen) told.0 ∙ ap (λ m. longer m.0.seen c.other.inside.seat.me.0.seen) c.join_seat.ensures.2 in
+    ap (λ m. m.0.seen) told.0 ∙ ap (λ m. longer m.0.seen c.other.inside.seat.me.0.seen) c.join_seat.ensures.2 in
     let turns_is : c.load.new.seat.me.0.turns ≡ c.pass.inside.seat.me.0.turns + c.other.inside.seat.me.0.turns = ap (λ m. m.0.turns) told.0 ∙ ap (λ m. m.0.turns) c.join_seat.ensures.2 in
     let mine = c.pass.invariant.0 in
     let theirs = c.other.invariant.0 in

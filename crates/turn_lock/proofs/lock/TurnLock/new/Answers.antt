@@ -10,4 +10,4 @@ new-requires g c =
     let items = c.in_default.ensures.items ∙ ap (λ xs. xs ++ Some value ∷ []) c.new-slots.ensures.items in
     let told = c.of-about.ensures in
     subst (λ (z : List (Option g.row.V.Denot) × g.row.V.Denot). Kept g.V.Grows.past (opening (c.length-length.result ∷ 0 ∷ 0 ∷ []) z.0 (first_view (g.V.Grows.past z.1)))) (λ i. (sym items i, sym told i))
-        (opens_ok g.V.Grows.past value c.length-length.result c.length-length.ensures.length)
+    (opens_ok g.V.Grows.past value c.length-length.result c.length-length.ensures.length)
