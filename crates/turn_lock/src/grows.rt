@@ -1,0 +1,16 @@
+//! What a value says of its past.
+ghost use Rattle.std.specs.Prelude.{◌≡◌, List, length};
+
+/// A value with a past, a list of entries that later values of its kind only make longer.
+pub trait Grows {
+    type Entry: 'static;
+
+    ghost past: { Self → List Self.Entry };
+
+    ghost lawful: { List Self.Entry → Type 0 };
+
+    /// The number of entries of the past.
+    fn length(&self) -> u64
+        ensures length { result ≡ length (past self.now) }
+        ensures lawful { lawful (past self.now) };
+}
