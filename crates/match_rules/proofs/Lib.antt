@@ -1,4 +1,5 @@
 pub mod Ascending
+pub mod ChosenLaws
 pub mod Counted
 pub mod Counts
 pub mod Exchange

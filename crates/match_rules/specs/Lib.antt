@@ -1,6 +1,7 @@
 pub mod Answers
 pub mod Assignments
 pub mod Breaks
+pub mod Chosen
 pub mod Evidence
 pub mod Examples
 pub mod First
