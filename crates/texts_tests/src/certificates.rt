@@ -62,13 +62,12 @@ fn rules_are_written_as_they_were_read(rt: HostRuntime) -> Result<(), Fail> {
 
 // Whether rules of these papers and reviewers are refused, where nothing else is wrong.
 fn refuses(alloc: Global, papers: &str, reviewers: &str) -> Result<bool, Fail> {
-    let rules = format!(in alloc; "rules 1\ntickets 10000\nlimit 1\npapers 2\n{papers}reviewers 2\n{reviewers}pairs 0\nend rules\n")?;
+    let rules = format!(in alloc;
+        "rules 1\ntickets 10000\nlimit 1\npapers 2\n{papers}reviewers 2\n{reviewers}pairs 0\nend rules\n"
+    )?;
     let answer =
         "lottery 1\nmode whole\nthreshold none\ntotal 0\npaper-prices 2\n0\n0\ngroup-prices 0\nreviewer-prices 2\n0\n0\nshares 0\ncut none\npieces 1\n10000\nend lottery\n";
-    Ok(matches!(
-        read(alloc, rules.as_str(), answer)?,
-        Err(ReadRefusal::Text)
-    ))
+    Ok(matches!(read(alloc, rules.as_str(), answer)?, Err(ReadRefusal::Text)))
 }
 
 #[test]

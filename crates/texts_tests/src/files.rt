@@ -1,5 +1,7 @@
 // Files in memory and real ones.
-use edge_io::{DirFolder, FileRead, Folder, FolderFault, MOST_FILE_BYTES, MemoryFile, MemoryFolder};
+use edge_io::{
+    DirFolder, FileRead, Folder, FolderFault, MOST_FILE_BYTES, MemoryFile, MemoryFolder,
+};
 use std::alloc::{AllocError, Global};
 use std::fs;
 use std::test::Fail;
@@ -43,10 +45,16 @@ fn a_real_file_at_the_limit_is_read_and_a_longer_one_is_not(rt: HostRuntime) -> 
     assert_eq!(rt; ending(folder.read_whole(alloc, "most.csv")), Err("absent"));
     let mut bytes = vec![in alloc; 7; MOST_FILE_BYTES]?;
     fs::write(&rt, "most.csv", bytes.as_slice())?;
-    assert_eq!(rt; ending(folder.read_whole(alloc, "most.csv")), Ok(33_554_432));
+    assert_eq!(rt;
+        ending(folder.read_whole(alloc, "most.csv")),
+        Ok(33_554_432)
+    );
     bytes.push(7)?;
     fs::write(&rt, "most.csv", bytes.as_slice())?;
-    assert_eq!(rt; ending(folder.read_whole(alloc, "most.csv")), Err("too long"));
+    assert_eq!(rt;
+        ending(folder.read_whole(alloc, "most.csv")),
+        Err("too long")
+    );
     fs::remove_file(&rt, "most.csv")?;
     Ok(())
 }
