@@ -25,7 +25,15 @@ pub fn turns<R: Wait>(rt: &R, alloc: Global) -> Option<[u64; 7]> {
     lock.join(&mut pass, other);
     let joined = pass.turns();
     let log = lock.close(pass)?;
-    Some([first, halves.0, halves.1, after, found, joined, log.entries.len() as u64])
+    Some([
+        first,
+        halves.0,
+        halves.1,
+        after,
+        found,
+        joined,
+        log.entries.len() as u64,
+    ])
 }
 
 /// The turns of a pass without turns, and whether it is refused one.

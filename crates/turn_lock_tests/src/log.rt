@@ -33,12 +33,7 @@ pub fn empty(alloc: Global) -> Log {
 }
 
 /// Takes a turn, adds an entry, and gives the turn back. It answers the place of the entry.
-pub fn note<R: Wait>(
-    rt: &R,
-    lock: &TurnLock<Log>,
-    pass: &mut Pass<Log>,
-    entry: u64,
-) -> Option<u64>
+pub fn note<R: Wait>(rt: &R, lock: &TurnLock<Log>, pass: &mut Pass<Log>, entry: u64) -> Option<u64>
     requires lock { pass.old.lock ≡ lock.now }
     requires free { pass.old.held ≡ None }
     ensures lock { pass.new.lock ≡ pass.old.lock }

@@ -17,7 +17,10 @@ fn main(rt: HostRuntime) -> anyhow::Result<()> {
     }
     println!(rt; "turns of passes {:?}", cases::turns(&rt, rt.alloc()))?;
     println!(rt; "spent {:?}", cases::spent(&rt, rt.alloc()))?;
-    println!(rt; "closed while a turn is out {:?}", cases::closed_early(&rt, rt.alloc()))?;
+    println!(rt;
+        "closed while a turn is out {:?}",
+        cases::closed_early(&rt, rt.alloc())
+    )?;
     println!(rt; "handed over {:?}", threads::handed_over(&rt, rt.alloc()))?;
     println!(rt; "waited {:?}", threads::waited(&rt, rt.alloc()))?;
     println!(rt; "two hundred {:?}", threads::two_hundred(&rt, rt.alloc()))?;

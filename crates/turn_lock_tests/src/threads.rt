@@ -11,35 +11,45 @@ use turn_lock::{Grows, Made, Pass, TurnLock};
 
 const ENTRIES: u64 = 100;
 
-// A lock in an `Arc` goes with a pass to a thread of its own, whatever value it has.
-fn hand_over<V: Grows + Send + Drop + 'static, R: Threads>(
-    rt: &R,
-    lock: &Arc<TurnLock<V>, Global>,
+// What threads may share.
+fn sharable<T: Send + Sync>(x: T) -> T
+    ensures { result ≡ x }
+{
+    x
+}
+
+// What threads may hand over.
+fn movable<T: Send>(x: T) -> T
+    ensures { result ≡ x }
+{
+    x
+}
+
+// A lock in an `Arc` is the one, and its passes are the other, for every value that threads may hand over.
+fn in_arc<V: Grows + Send + Drop + 'static>(
+    alloc: Global,
+    lock: TurnLock<V>,
     pass: Pass<V>,
-) -> Option<u64> {
-    let theirs = Arc::try_clone(lock).ok()?;
+) -> Option<(Arc<TurnLock<V>, Global>, Pass<V>)> {
+    let lock = Arc::new(alloc, lock).ok()?;
+    Some((sharable(lock), movable(pass)))
+}
+
+/// The turns of a pass that another thread looked at, which has the lock too.
+pub fn handed_over<R: Threads>(rt: &R, alloc: Global) -> Option<u64> {
+    let Ok(Made { lock, pass }) = TurnLock::new(alloc, empty(alloc)) else {
+        return None;
+    };
+    let (lock, pass) = in_arc(alloc, lock, pass)?;
     let child = thread::spawn(rt, move || {
-        drop(theirs);
+        drop(lock);
         pass.turns()
     });
     Some(child.ok()?.join(rt))
 }
 
-/// The turns of a pass that another thread looked at.
-pub fn handed_over<R: Threads>(rt: &R, alloc: Global) -> Option<u64> {
-    let Ok(Made { lock, pass }) = TurnLock::new(alloc, empty(alloc)) else {
-        return None;
-    };
-    hand_over(rt, &Arc::new(alloc, lock).ok()?, pass)
-}
-
 // Adds so many entries, each at a greater place than the last. It answers the pass, and whether it did.
-fn add<R: Wait>(
-    rt: &R,
-    lock: &TurnLock<Log>,
-    mut pass: Pass<Log>,
-    first: u64,
-) -> (Pass<Log>, bool)
+fn add<R: Wait>(rt: &R, lock: &TurnLock<Log>, mut pass: Pass<Log>, first: u64) -> (Pass<Log>, bool)
     requires first { first < 1000 }
     requires lock { pass.lock ≡ lock.now }
     requires free { pass.held ≡ None }
