@@ -48,7 +48,7 @@ pub struct NoRoom<V> {
 }
 
 /// The turns of a lock's first pass.
-pub const ALL_TURNS: u64 = 1 << 62;
+const ALL_TURNS: u64 = 1 << 62;
 
 impl<V: Grows> TurnLock<V> {
     /// Takes turns, as many as the first pass has, from which all others are split.
