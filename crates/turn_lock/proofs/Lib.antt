@@ -6,3 +6,4 @@ pub mod Gives
 pub mod Shares
 pub mod Ends
 pub mod Hands
+pub mod Says

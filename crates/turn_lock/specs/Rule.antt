@@ -18,6 +18,13 @@ module _ {E : Type 0} where
   queued (Holds ticket taken) = 1
   queued (Stored ticket) = 1
 
+  abbrev pub ticket_of : Stage E → Option ℕ
+  ticket_of Idle = None
+  ticket_of (Joined told) = None
+  ticket_of (Waits ticket) = Some ticket
+  ticket_of (Holds ticket taken) = Some ticket
+  ticket_of (Stored ticket) = Some ticket
+
   abbrev pub has_turn : Stage E → Bool
   has_turn Idle = false
   has_turn (Joined told) = false
@@ -74,3 +81,20 @@ pub record Kept {S E : Type 0} (past_of : S → List E) (s : State (Option S) (V
 -- the view of a lock's first seat
 abbrev pub first_view : {E : Type 0} → List E → View E
 first_view past = record { seen = past; turns = 2 ^ 62; taken = 0; made = []; stage = Idle }
+
+-- What the rule says of the seats' views, for every seat that is there.
+pub record Says {S E : Type 0} (past_of : S → List E) (s : State (Option S) (View E)) (past : List E) (next serving : ℕ) : Type 0 where
+  pub words : s.words ≡ length past ∷ next ∷ serving ∷ []
+  pub tickets : (seat : ℕ) (v : View E) (ticket : ℕ) → get_elem? s.views seat ≡ some v → ticket_of v.stage ≡ Some ticket → (serving ≤ ticket) × (ticket < next)
+  pub no_shared_ticket : (i j : ℕ) (v w : View E) (ticket : ℕ) → get_elem? s.views i ≡ some v → get_elem? s.views j ≡ some w → ticket_of v.stage ≡ Some ticket → ticket_of w.stage ≡ Some ticket → i ≡ j
+  pub queue : serving + sum_by (λ (v : View E). queued v.stage) s.views ≡ next
+  pub turn : (seat : ℕ) (v : View E) → get_elem? s.views seat ≡ some v → has_turn v.stage ≡ true → (ticket_of v.stage ≡ Some serving) × (s.homes ≡ none ∷ [])
+  pub one_turn : (i j : ℕ) (v w : View E) → get_elem? s.views i ≡ some v → get_elem? s.views j ≡ some w → has_turn v.stage ≡ true → has_turn w.stage ≡ true → i ≡ j
+  pub slot : IsHome past_of past s.homes ⊎ IsOut s.homes s.views
+  pub past_taken : (seat : ℕ) (v : View E) (ticket : ℕ) (taken : List E) → get_elem? s.views seat ≡ some v → v.stage ≡ Holds ticket taken → taken ≡ past
+  pub past_stored : (seat : ℕ) (v : View E) (ticket : ℕ) → get_elem? s.views seat ≡ some v → v.stage ≡ Stored ticket → v.seen ≡ past
+  pub seen : (seat : ℕ) (v : View E) → get_elem? s.views seat ≡ some v → IsPrefix v.seen past
+  pub turns : sum_by (λ (v : View E). v.turns) s.views + next ≤ 2 ^ 62
+
+abbrev pub RuleSays : {S E : Type 0} → (S → List E) → Type 0
+RuleSays {S} {E} past_of = (s : State (Option S) (View E)) (r : Kept past_of s) → Says past_of s r.past r.next r.serving

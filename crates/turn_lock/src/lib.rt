@@ -2,6 +2,7 @@
 #![tactic(auto)]
 
 mod grows;
+mod laws;
 mod lock;
 mod pass;
 mod plays;
@@ -9,5 +10,6 @@ mod steps;
 mod view;
 
 pub use grows::Grows;
+pub use laws::rule_says;
 pub use lock::{Made, NoRoom, TurnLock};
 pub use pass::{Pass, Spent};

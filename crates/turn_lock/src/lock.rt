@@ -15,6 +15,7 @@ use std::snapshot::Snapshot;
 use std::sync::Wait;
 
 /// A lock for a value whose past grows. Passes take turns at it, in the order in which they asked.
+#[derive(Drop)]
 pub struct TurnLock<V: Grows> {
     table: Board<V>,
 }
@@ -34,6 +35,7 @@ impl<V: Grows> Model for TurnLock<V> {
 }
 
 /// A lock with its first pass.
+#[derive(Drop)]
 pub struct Made<V: Grows> {
     pub lock: TurnLock<V>,
     pub pass: Pass<V>,
@@ -46,7 +48,7 @@ pub struct NoRoom<V> {
 }
 
 /// The turns of a lock's first pass.
-pub const ALL_TURNS: u64 = 1 << 62;
+const ALL_TURNS: u64 = 1 << 62;
 
 impl<V: Grows> TurnLock<V> {
     /// Takes turns, as many as the first pass has, from which all others are split.
