@@ -1,4 +1,5 @@
 pub mod BidWords
+pub mod ColumnTexts
 pub mod Counts
 pub mod Documents
 pub mod Names

@@ -10,7 +10,8 @@ use Rattle.bid_import.specs.declared.fault.Code.{Code}
 use Rattle.bid_import.specs.declared.fault.Code.TheVariants.{TooMany, NotUtf8}
 use Rattle.bid_import.specs.declared.fault.ImportFault.{ImportFault}
 use Rattle.bid_import.specs.declared.fault.ImportFault.TheVariants.{Memory, Bad}
-use Rattle.bid_import.specs.Files.{with_row, rows_from, is_header, rows_of_records, with_rows, rest_of, Goes, Adds, IsProgress, rows_of_file, unread_fault, Imports}
+use Rattle.bid_import.specs.Files.{with_row, rows_from, is_header, rows_of_records, rows_of_file, Imports}
+use Rattle.bid_import.specs.RecordLoop.{with_rows, rest_of, Goes, Adds, IsProgress, unread_fault}
 use Rattle.bid_import.proofs.Streams.{left_records, stream-took}
 use Rattle.bid_import.proofs.Texts.{texts-all}
 use Rattle.csv.specs.Machine.{ends_at_end}

@@ -10,7 +10,8 @@ use Rattle.toml.specs.Data.{Data, as_array, as_table}
 use Rattle.toml.specs.View.{view, items_view}
 use Rattle.toml.specs.declared.value.Value.{Value}
 use Rattle.score_spec.specs.Sources.{SourceValue}
-use Rattle.bid_import.specs.Settings.{each, knows, source_keys, knows_sources, source_from, sources_in, sources_from, are_distinct, may_be_sources, where_it}
+use Rattle.bid_import.specs.Settings.{each, knows, source_keys, knows_sources, source_from, sources_in, sources_from, are_distinct, may_be_sources}
+use Rattle.score_spec.specs.Reading.{only_if}
 use Rattle.bid_import.proofs.Documents.{listed-view, each-length}
 
 abbrev pub read_source : Data → Option SourceValue
@@ -46,7 +47,7 @@ distinct-at xs i s known lt at h =
     let parts : drop i xs ≡ s ∷ rest = drop_more xs i s lt ∙ ap (λ v. v ∷ rest) (sym at) in
     ap (λ zs. are_distinct (names zs)) parts ∙ distinct-step s rest known (rw all at h)
 
-many : (o : Option (List SourceValue)) (n : ℕ) → ((sources : List SourceValue) → o ≡ Some sources → length sources ≡ n) → 8 < n → option_and_then (λ sources. where_it (may_be_sources sources) sources) o ≡ None
+many : (o : Option (List SourceValue)) (n : ℕ) → ((sources : List SourceValue) → o ≡ Some sources → length sources ≡ n) → 8 < n → option_and_then (λ sources. only_if (may_be_sources sources) sources) o ≡ None
 many None n size more = refl
 many (Some sources) n size more = let far = lt-leb (length sources) 8 (omega (arith, size sources refl)) in rw far refl
 
@@ -58,7 +59,7 @@ too_many vs more = many (each read_source (map view vs)) (length vs) (λ sources
 pub twice-named : (vs : List Value) (sources : List SourceValue) → each read_source (map view vs) ≡ Some sources → are_distinct (names sources) ≡ false → sources_in (map view vs) ≡ None
 twice-named vs sources h twice = rw (h, twice) (never (nat_le (length sources) 8) sources)
   where
-    never : (b : Bool) (sources : List SourceValue) → where_it (b && false) sources ≡ None
+    never : (b : Bool) (sources : List SourceValue) → only_if (b && false) sources ≡ None
     never true sources = refl
     never false sources = refl
 

@@ -19,11 +19,7 @@ use Rattle.bid_import.specs.declared.rows.ValueRow.{ValueRow}
 use Rattle.bid_import.specs.declared.rows.BidRow.{BidRow}
 use Rattle.bid_import.specs.declared.rows.MarkRow.{MarkRow}
 use Rattle.bid_import.specs.declared.rows.CapRow.{CapRow}
-
--- the one, and then the other of what it gave, or the fault of the first
-abbrev pub then_of : {A B : Type 0} → Result A Code → (A → Result B Code) → Result B Code
-then_of (Ok x) more = more x
-then_of (Err code) more = Err code
+use Rattle.bid_import.specs.Results.{◌>>=◌}
 
 abbrev pub id_of : List ℕ → Result (List ℕ) Code
 id_of text = if is_id text then Ok text else Err BadId
@@ -97,33 +93,57 @@ mark_from value =
 abbrev pub cap_from : ℤ → Result ℤ Code
 cap_from value = if int_le (pos 0) value && int_le value (pos 10000) then Ok value else Err BadCap
 
+abbrev pub mark_of : List ℕ → Result ℤ Code
+mark_of text = value_of text >>= mark_from
+
+abbrev pub cap_of : List ℕ → Result ℤ Code
+cap_of text = value_of text >>= cap_from
+
 -- a bid is one of the words
 abbrev pub word_of : List BidWord → List ℕ → Result (List ℕ) Code
 word_of words text = if list_any (λ (w : BidWord). bytes_eq w.word text) words then Ok text else Err UnknownWord
 
 abbrev pub paper_of : List ℕ → List ℕ → List ℕ → Result PaperRow Code
-paper_of paper demand institutions =
-    then_of (id_of paper) (λ id. then_of (demand_of demand) (λ number. then_of (institutions_of (names_in institutions)) (λ names. Ok (record { id = id; demand = number; authors = names }))))
+paper_of paper demand institutions = do
+  id ← id_of paper
+  number ← demand_of demand
+  names ← institutions_of (names_in institutions)
+  Ok (record { id = id; demand = number; authors = names })
 
 abbrev pub reviewer_of : List ℕ → List ℕ → List ℕ → List ℕ → Result ReviewerRow Code
-reviewer_of reviewer institution least greatest =
-    then_of (id_of reviewer) (λ id. then_of (institution_of institution) (λ name. then_of (load_of least greatest) (λ load. Ok (record { id = id; institution = name; load = load }))))
+reviewer_of reviewer institution least greatest = do
+  id ← id_of reviewer
+  name ← institution_of institution
+  load ← load_of least greatest
+  Ok (record { id = id; institution = name; load = load })
 
 abbrev pub value_row_of : List ℕ → List ℕ → List ℕ → Result ValueRow Code
-value_row_of paper reviewer value =
-    then_of (id_of paper) (λ p. then_of (id_of reviewer) (λ r. then_of (value_of value) (λ v. Ok (record { paper = p; reviewer = r; value = v }))))
+value_row_of paper reviewer value = do
+  p ← id_of paper
+  r ← id_of reviewer
+  v ← value_of value
+  Ok (record { paper = p; reviewer = r; value = v })
 
 abbrev pub bid_row_of : List BidWord → List ℕ → List ℕ → List ℕ → Result BidRow Code
-bid_row_of words paper reviewer bid =
-    then_of (id_of paper) (λ p. then_of (id_of reviewer) (λ r. then_of (word_of words bid) (λ w. Ok (record { paper = p; reviewer = r; word = w }))))
+bid_row_of words paper reviewer bid = do
+  p ← id_of paper
+  r ← id_of reviewer
+  w ← word_of words bid
+  Ok (record { paper = p; reviewer = r; word = w })
 
 abbrev pub mark_row_of : List ℕ → List ℕ → List ℕ → Result MarkRow Code
-mark_row_of paper reviewer mark =
-    then_of (id_of paper) (λ p. then_of (id_of reviewer) (λ r. then_of (then_of (value_of mark) mark_from) (λ m. Ok (record { paper = p; reviewer = r; mark = m }))))
+mark_row_of paper reviewer mark = do
+  p ← id_of paper
+  r ← id_of reviewer
+  m ← mark_of mark
+  Ok (record { paper = p; reviewer = r; mark = m })
 
 abbrev pub cap_row_of : List ℕ → List ℕ → List ℕ → Result CapRow Code
-cap_row_of paper reviewer cap =
-    then_of (id_of paper) (λ p. then_of (id_of reviewer) (λ r. then_of (then_of (value_of cap) cap_from) (λ v. Ok (record { paper = p; reviewer = r; cap = v }))))
+cap_row_of paper reviewer cap = do
+  p ← id_of paper
+  r ← id_of reviewer
+  v ← cap_of cap
+  Ok (record { paper = p; reviewer = r; cap = v })
 
 abbrev pub three_of : List (List ℕ) → Option (List ℕ × List ℕ × List ℕ)
 three_of [] = None

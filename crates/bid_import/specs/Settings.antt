@@ -8,8 +8,9 @@ use Rattle.std.specs.Char.{is_ascii_lowercase, is_ascii_digit}
 use Rattle.toml.specs.Data.{Data, Items, no_items, item, Members, no_members, member, get_member, as_str, as_integer, as_array, as_table}
 use Rattle.toml.specs.Parse.{parse_document}
 use Rattle.roster.specs.Loads.{LoadValue, load_from}
+use Rattle.roster.specs.declared.load.TheConstants.{MOST_LOAD}
 use Rattle.roster.specs.Table.{Ascend}
-use Rattle.score_spec.specs.Reading.{read_as}
+use Rattle.score_spec.specs.Reading.{only_if, read_as}
 use Rattle.score_spec.specs.Sources.{SourceValue}
 use Rattle.score_spec.specs.declared.spec.Kind.{Kind}
 use Rattle.score_spec.specs.declared.spec.Kind.TheVariants.{Values, Bids}
@@ -21,6 +22,8 @@ use Rattle.bid_import.specs.declared.fault.Key.{Key}
 use Rattle.bid_import.specs.declared.fault.Key.TheVariants as key
 use Rattle.bid_import.specs.declared.fault.ImportFault.{ImportFault}
 use Rattle.bid_import.specs.declared.fault.ImportFault.TheVariants.{Memory, Bad}
+use Rattle.bid_import.specs.declared.settings.TheConstants.{MOST_LIMIT}
+use Rattle.bid_import.specs.Results.{◌>>=◌}
 
 -- the settings of a venue; values and caps are in ten-thousandths
 pub record SettingsValue : Type 0 where
@@ -45,7 +48,7 @@ AscendInBytes words = Ascend (λ (w : BidWord). w.word) words
 -- the bounds of settings
 pub record IsSettings (s : SettingsValue) : Type 0 where
   pub some_limit : 1 ≤ s.limit
-  pub limit : s.limit ≤ 1500
+  pub limit : s.limit ≤ MOST_LIMIT
   pub some_cap : pos 0 ≤ℤ s.cap
   pub cap : s.cap ≤ℤ pos 10000
   pub demand : s.demand ≤ 100
@@ -68,14 +71,9 @@ abbrev pub each : {A B : Type 0} → (A → Option B) → List A → Option (Lis
 each read [] = Some []
 each read (x ∷ xs) = option_and_then (λ y. option_map (λ ys. y ∷ ys) (each read xs)) (read x)
 
--- the value where the test holds
-abbrev pub where_it : {A : Type 0} → Bool → A → Option A
-where_it true x = Some x
-where_it false x = None
-
 -- the number, where it is from low to high
 abbrev pub number_in : ℕ → ℕ → ℤ → Option ℕ
-number_in low high (pos n) = where_it (nat_le low n && nat_le n high) n
+number_in low high (pos n) = only_if (nat_le low n && nat_le n high) n
 number_in low high (negsuc n) = None
 
 abbrev pub number_from : ℕ → ℕ → Data → Option ℕ
@@ -91,17 +89,17 @@ setting at_fault default read None = Ok default
 setting at_fault default read (Some d) = ok_or (read d) at_fault
 
 abbrev pub limit_setting : Members → Result ℕ Key
-limit_setting m = setting key.Limit 1500 (number_from 1 1500) (get_member (codes "limit") m)
+limit_setting m = setting key.Limit MOST_LIMIT (number_from 1 MOST_LIMIT) (get_member (codes "limit") m)
 
 abbrev pub cap_in : ℤ → Option ℤ
-cap_in value = where_it (int_le (pos 0) value && int_le value (pos 10000)) value
+cap_in value = only_if (int_le (pos 0) value && int_le value (pos 10000)) value
 
 abbrev pub cap_setting : Members → Result ℤ Key
 cap_setting m = setting key.Cap (pos 10000) (λ d. option_and_then cap_in (text_value d)) (get_member (codes "cap") m)
 
 -- whether all pairs are candidates
 abbrev pub pairs_word : List ℕ → Option Bool
-pairs_word text = if bytes_eq text (codes "all") then Some true else where_it (bytes_eq text (codes "listed")) false
+pairs_word text = if bytes_eq text (codes "all") then Some true else only_if (bytes_eq text (codes "listed")) false
 
 abbrev pub pairs_setting : Members → Result Bool Key
 pairs_setting m = setting key.Pairs false (λ d. option_and_then pairs_word (as_str d)) (get_member (codes "pairs") m)
@@ -110,12 +108,12 @@ abbrev pub demand_setting : Members → Result ℕ Key
 demand_setting m = setting key.Demand 3 (number_from 0 100) (get_member (codes "demand") m)
 
 abbrev pub least_setting : Members → Result ℕ Key
-least_setting m = setting key.Least 0 (number_from 0 1500) (get_member (codes "least") m)
+least_setting m = setting key.Least 0 (number_from 0 MOST_LOAD) (get_member (codes "least") m)
 
 -- the load from this least on: the greatest, as given or 6, makes a load with it
 abbrev pub load_with : ℕ → Option Data → Result LoadValue Key
 load_with least None = ok_or (load_from least 6) key.Greatest
-load_with least (Some d) = ok_or (option_and_then (load_from least) (number_from 0 1500 d)) key.Greatest
+load_with least (Some d) = ok_or (option_and_then (load_from least) (number_from 0 MOST_LOAD d)) key.Greatest
 
 abbrev pub load_above : Members → ℕ → Result LoadValue Key
 load_above m least = load_with least (get_member (codes "greatest") m)
@@ -128,16 +126,16 @@ abbrev pub is_source_name : List ℕ → Bool
 is_source_name text = (nat_le 1 (length text) && nat_le (length text) 32) && list_all is_name_byte text
 
 abbrev pub name_from : Data → Option (List ℕ)
-name_from d = option_and_then (λ text. where_it (is_source_name text) text) (as_str d)
+name_from d = option_and_then (λ text. only_if (is_source_name text) text) (as_str d)
 
 abbrev pub kind_word : List ℕ → Option Kind
-kind_word text = if bytes_eq text (codes "values") then Some Values else where_it (bytes_eq text (codes "bids")) Bids
+kind_word text = if bytes_eq text (codes "values") then Some Values else only_if (bytes_eq text (codes "bids")) Bids
 
 abbrev pub kind_from : Data → Option Kind
 kind_from d = option_and_then kind_word (as_str d)
 
 abbrev pub weight_in : ℤ → Option ℤ
-weight_in weight = where_it (int_le (neg_ℤ (pos 10000)) weight && int_le weight (pos 10000)) weight
+weight_in weight = only_if (int_le (neg_ℤ (pos 10000)) weight && int_le weight (pos 10000)) weight
 
 abbrev pub weight_from : Data → Option ℤ
 weight_from d = option_and_then weight_in (as_integer d)
@@ -161,7 +159,7 @@ abbrev pub may_be_sources : List SourceValue → Bool
 may_be_sources sources = nat_le (length sources) 8 && are_distinct (map (λ (s : SourceValue). s.name) sources)
 
 abbrev pub sources_in : List Data → Option (List SourceValue)
-sources_in tables = option_and_then (λ sources. where_it (may_be_sources sources) sources) (each (λ table. option_and_then source_from (as_table table)) tables)
+sources_in tables = option_and_then (λ sources. only_if (may_be_sources sources) sources) (each (λ table. option_and_then source_from (as_table table)) tables)
 
 abbrev pub sources_from : Data → Option (List SourceValue)
 sources_from d = option_and_then (λ items. sources_in (listed items)) (as_array d)
@@ -217,25 +215,29 @@ knows_sources d = option_map_or (λ items. list_all (λ table. option_map_or (kn
 abbrev pub knows_all : Members → Bool
 knows_all m = knows setting_keys m && option_map_or knows_sources (get_member (codes "source") m) true
 
--- the one, and then the other with what it gave, or the first's key at fault
-abbrev pub then_set : {A B : Type 0} → Result A Key → (A → Result B Key) → Result B Key
-then_set (Ok x) more = more x
-then_set (Err at_fault) more = Err at_fault
-
 -- the numbers, and then the sources and the words
 abbrev pub load_setting : Members → Result LoadValue Key
-load_setting m = then_set (least_setting m) (load_above m)
+load_setting m = least_setting m >>= load_above m
 
 abbrev pub spec_setting : Members → Result Spec Key
-spec_setting m = then_set (sources_setting m) (λ sources. then_set (words_setting m) (λ words. Ok (record { sources = sources; words = words })))
+spec_setting m = do
+  sources ← sources_setting m
+  words ← words_setting m
+  Ok (record { sources = sources; words = words })
+
+abbrev pub known_settings : Members → Result SettingsValue Key
+known_settings m = do
+  limit ← limit_setting m
+  cap ← cap_setting m
+  all_pairs ← pairs_setting m
+  demand ← demand_setting m
+  load ← load_setting m
+  spec ← spec_setting m
+  Ok (record { limit = limit; cap = cap; all_pairs = all_pairs; demand = demand; load = load; spec = spec })
 
 -- the settings of a document, or its first key at fault
 abbrev pub settings_of : Members → Result SettingsValue Key
-settings_of m =
-    if knows_all m
-    then then_set (limit_setting m) (λ limit. then_set (cap_setting m) (λ cap. then_set (pairs_setting m) (λ all_pairs. then_set (demand_setting m) (λ demand. then_set (load_setting m) (λ load. then_set (spec_setting m) (λ spec.
-    Ok (record { limit = limit; cap = cap; all_pairs = all_pairs; demand = demand; load = load; spec = spec })))))))
-    else Err key.Unknown
+settings_of m = if knows_all m then known_settings m else Err key.Unknown
 
 abbrev pub setting_code : Result SettingsValue Key → Result SettingsValue Code
 setting_code (Ok settings) = Ok settings
@@ -257,7 +259,7 @@ settings_of_file bytes = settings_of_document (document_of bytes)
 abbrev pub default_settings : SettingsValue
 default_settings =
     record {
-      limit = 1500;
+      limit = MOST_LIMIT;
       cap = pos 10000;
       all_pairs = false;
       demand = 3;

@@ -1,6 +1,6 @@
 // What stands at the keys of a document of settings.
 
-ghost use Rattle.std.specs.Prelude.{◌≡◌, ◌≤◌, ◌≤ℤ◌, IfSome, IfOk, neg_ℤ, pos, ok_or, option_map, option_and_then};
+ghost use Rattle.std.specs.Prelude.{◌≡◌, ◌≤◌, ◌≤ℤ◌, IfSome, IfOk, pos, ok_or, option_map, option_and_then};
 ghost use Rattle.roster.specs.Loads.{load_from};
 ghost use Rattle.toml.specs.Data.{get_member, as_str};
 ghost use Rattle.toml.specs.View.{view, table_view};
@@ -8,7 +8,8 @@ ghost use Rattle.bid_import.specs.Documents.{ReadsTable};
 ghost use Rattle.bid_import.specs.Settings.{number_in, number_from, text_value, limit_setting, cap_in, cap_setting, pairs_word, pairs_setting, demand_setting, least_setting, load_with, load_above, load_setting};
 
 use crate::fault::Key;
-use roster::Load;
+use crate::settings::MOST_LIMIT;
+use roster::{Load, MOST_LOAD};
 use score_spec::{Value, read_value};
 use std::alloc::{AllocError, AllocFailed, Global};
 use std::str;
@@ -81,7 +82,7 @@ pub(crate) fn read_table(alloc: Global, bytes: &[u8]) -> Result<Table, TableFaul
 }
 
 /// What stands at a key.
-pub(crate) fn at<'a>(table: &'a Table, key: &str) -> Option<&'a toml::Value>
+pub(crate) fn member<'a>(table: &'a Table, key: &str) -> Option<&'a toml::Value>
     ensures { option_map (λ v. view v.now) result ≡ get_member key.now (table_view table.now) }
 {
     table.get(key)
@@ -125,12 +126,12 @@ pub(crate) fn value(node: &toml::Value) -> Option<Value>
 pub(crate) fn limit(table: &Table) -> Result<u32, Key>
     ensures same { result ≡ limit_setting (table_view table.now) }
     ensures low { IfOk result (λ n. 1 ≤ n) }
-    ensures high { IfOk result (λ n. n ≤ 1500) }
+    ensures high { IfOk result (λ n. n ≤ MOST_LIMIT) }
 {
-    let Some(node) = at(table, "limit") else {
-        return Ok(1500);
+    let Some(node) = member(table, "limit") else {
+        return Ok(MOST_LIMIT);
     };
-    number(1, 1500, node).ok_or(Key::Limit)
+    number(1, MOST_LIMIT, node).ok_or(Key::Limit)
 }
 
 fn cap_in(value: Value) -> Option<Value>
@@ -156,26 +157,14 @@ fn cap_of(node: &toml::Value) -> Option<Value>
     cap_in(value(node)?)
 }
 
-/// This many ten-thousandths.
-pub(crate) fn fixed(tenthousandths: i32) -> Value
-    requires low { neg_ℤ (pos 100000) ≤ℤ tenthousandths }
-    requires high { tenthousandths ≤ℤ pos 100000 }
-    ensures { result ≡ tenthousandths }
-{
-    match Value::new(tenthousandths) {
-        Some(value) => value,
-        None => unreachable!(),
-    }
-}
-
 /// The cap of a pair that has none of its own.
 pub(crate) fn cap(table: &Table) -> Result<Value, Key>
     ensures same { result ≡ cap_setting (table_view table.now) }
     ensures low { IfOk result (λ v. pos 0 ≤ℤ v) }
     ensures high { IfOk result (λ v. v ≤ℤ pos 10000) }
 {
-    let Some(node) = at(table, "cap") else {
-        return Ok(fixed(10_000));
+    let Some(node) = member(table, "cap") else {
+        return Ok(Value::from_tenthousandths(10_000));
     };
     cap_of(node).ok_or(Key::Cap)
 }
@@ -202,7 +191,7 @@ fn pairs_of(node: &toml::Value) -> Option<bool>
 pub(crate) fn all_pairs(table: &Table) -> Result<bool, Key>
     ensures { result ≡ pairs_setting (table_view table.now) }
 {
-    let Some(node) = at(table, "pairs") else {
+    let Some(node) = member(table, "pairs") else {
         return Ok(false);
     };
     pairs_of(node).ok_or(Key::Pairs)
@@ -213,7 +202,7 @@ pub(crate) fn demand(table: &Table) -> Result<u32, Key>
     ensures same { result ≡ demand_setting (table_view table.now) }
     ensures high { IfOk result (λ n. n ≤ 100) }
 {
-    let Some(node) = at(table, "demand") else {
+    let Some(node) = member(table, "demand") else {
         return Ok(3);
     };
     number(0, 100, node).ok_or(Key::Demand)
@@ -222,22 +211,22 @@ pub(crate) fn demand(table: &Table) -> Result<u32, Key>
 fn least(table: &Table) -> Result<u32, Key>
     ensures { result ≡ least_setting (table_view table.now) }
 {
-    let Some(node) = at(table, "least") else {
+    let Some(node) = member(table, "least") else {
         return Ok(0);
     };
-    number(0, 1500, node).ok_or(Key::Least)
+    number(0, MOST_LOAD, node).ok_or(Key::Least)
 }
 
 fn given_load(least: u32, node: &toml::Value) -> Option<Load>
-    ensures { result ≡ option_and_then (load_from least) (number_from 0 1500 (view node.now)) }
+    ensures { result ≡ option_and_then (load_from least) (number_from 0 MOST_LOAD (view node.now)) }
 {
-    Load::new(least, number(0, 1500, node)?)
+    Load::new(least, number(0, MOST_LOAD, node)?)
 }
 
 fn greatest_load(table: &Table, least: u32) -> Option<Load>
     ensures { ok_or result Key.Greatest ≡ load_above (table_view table.now) least }
 {
-    match at(table, "greatest") {
+    match member(table, "greatest") {
         Some(node) => given_load(least, node),
         None => Load::new(least, 6),
     }

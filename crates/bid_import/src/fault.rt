@@ -1,3 +1,5 @@
+use std::alloc::{AllocError, AllocFailed};
+
 /// The first key of the settings that is at fault.
 #[derive(Clone, Copy, PartialEq, Eq, Debug)]
 pub enum Key {
@@ -59,20 +61,42 @@ pub enum ImportFault {
     Bad { row: u64, code: Code },
 }
 
-/// The tables that are files of records.
-#[derive(Clone, Copy, PartialEq, Eq, Debug)]
-pub enum FileKind {
-    Papers,
-    Reviewers,
-    Values,
-    Bids,
-    Marks,
-    Caps,
-}
-
 // Why a record gave no row.
 #[derive(Clone, Copy)]
 pub(crate) enum RowFault {
     Memory,
     Wrong(Code),
+}
+
+impl From<Code> for RowFault {
+    ghost use Rattle.std.specs.Prelude.{◌≡◌};
+    ghost use Rattle.bid_import.specs.declared.fault.RowFault.TheVariants.{Wrong};
+
+    ghost from_gives = { λ code fault. fault ≡ Wrong code };
+
+    fn from(code: Code) -> RowFault {
+        RowFault::Wrong(code)
+    }
+}
+
+impl From<AllocError> for RowFault {
+    ghost use Rattle.std.specs.Prelude.{◌≡◌};
+    ghost use Rattle.bid_import.specs.declared.fault.RowFault.TheVariants.{Memory};
+
+    ghost from_gives = { λ _ fault. fault ≡ Memory };
+
+    fn from(_error: AllocError) -> RowFault {
+        RowFault::Memory
+    }
+}
+
+impl<T: Drop> From<AllocFailed<T>> for RowFault {
+    ghost use Rattle.std.specs.Prelude.{◌≡◌};
+    ghost use Rattle.bid_import.specs.declared.fault.RowFault.TheVariants.{Memory};
+
+    ghost from_gives = { λ _ fault. fault ≡ Memory };
+
+    fn from(_error: AllocFailed<T>) -> RowFault {
+        RowFault::Memory
+    }
 }

@@ -9,7 +9,7 @@ ghost use Rattle.std.specs.Str.{bytes_eq};
 ghost use Rattle.score_spec.specs.declared.spec.BidWord.{BidWord};
 ghost use Rattle.bid_import.specs.Files.{Reads, is_header};
 ghost use Rattle.bid_import.specs.Names.{ReadsNames, ReadsAll};
-ghost use Rattle.bid_import.specs.Fields.{then_of, id_of, is_count, count_of, demand_of, institution_of, load_of, load_of_counts, value_of, mark_from, cap_from, word_of, names_in, institutions_of, three_of, four_of};
+ghost use Rattle.bid_import.specs.Fields.{id_of, is_count, count_of, demand_of, institution_of, load_of, load_of_counts, value_of, mark_from, mark_of, cap_from, cap_of, word_of, names_in, institutions_of, three_of, four_of};
 
 use crate::fault::{Code, RowFault};
 use csv::StringRecord;
@@ -103,14 +103,7 @@ pub(crate) fn demand(text: &str) -> Result<Option<u32>, Code>
 fn given_load(least: &str, greatest: &str) -> Option<Load>
     ensures { result ≡ load_of_counts (count_of least.now) (count_of greatest.now) }
 {
-    let from = match count(least) {
-        Some(number) => number,
-        None => return None,
-    };
-    match count(greatest) {
-        Some(number) => Load::new(from, number),
-        None => None,
-    }
+    Load::new(count(least)?, count(greatest)?)
 }
 
 pub(crate) fn load(least: &str, greatest: &str) -> Result<Option<Load>, Code>
@@ -135,7 +128,7 @@ pub(crate) fn value(text: &str) -> Result<Value, Code>
     }
 }
 
-fn mark_of(value: Value) -> Result<i32, Code>
+fn mark_from(value: Value) -> Result<i32, Code>
     ensures { result ≡ mark_from value }
 {
     let number = value.tenthousandths();
@@ -152,15 +145,12 @@ fn mark_of(value: Value) -> Result<i32, Code>
 }
 
 pub(crate) fn mark(text: &str) -> Result<i32, Code>
-    ensures { result ≡ then_of (value_of text.now) mark_from }
+    ensures { result ≡ mark_of text.now }
 {
-    match value(text) {
-        Ok(value) => mark_of(value),
-        Err(code) => Err(code),
-    }
+    mark_from(value(text)?)
 }
 
-fn cap_of(value: Value) -> Result<Value, Code>
+fn cap_from(value: Value) -> Result<Value, Code>
     ensures { result ≡ cap_from value }
 {
     let number = value.tenthousandths();
@@ -174,12 +164,9 @@ fn cap_of(value: Value) -> Result<Value, Code>
 }
 
 pub(crate) fn cap(text: &str) -> Result<Value, Code>
-    ensures { result ≡ then_of (value_of text.now) cap_from }
+    ensures { result ≡ cap_of text.now }
 {
-    match value(text) {
-        Ok(value) => cap_of(value),
-        Err(code) => Err(code),
-    }
+    cap_from(value(text)?)
 }
 
 fn has_name(known: &[&str], name: &str) -> bool
@@ -208,9 +195,7 @@ fn names<'a>(alloc: Global, text: &'a str) -> Result<Vec<&'a str>, RowFault>
         if known.len() >= 64 {
             return Err(RowFault::Wrong(Code::TooMany));
         }
-        if known.push(name).is_err() {
-            return Err(RowFault::Memory);
-        }
+        known.push(name)?;
     }
     Ok(known)
 }
@@ -221,11 +206,7 @@ fn all_institutions(alloc: Global, names: &[&str]) -> Result<Vec<Institution>, R
     let mut items = Vec::new(alloc);
     for name in names {
         match Institution::read(alloc, *name) {
-            Ok(item) => {
-                if items.push(item).is_err() {
-                    return Err(RowFault::Memory);
-                }
-            }
+            Ok(item) => items.push(item)?,
             Err(IdFault::BadId) => return Err(RowFault::Wrong(Code::BadId)),
             Err(IdFault::Memory) => return Err(RowFault::Memory),
         }
@@ -236,14 +217,9 @@ fn all_institutions(alloc: Global, names: &[&str]) -> Result<Vec<Institution>, R
 pub(crate) fn institutions(alloc: Global, text: &str) -> Result<Institutions, RowFault>
     ensures { Reads result (institutions_of (names_in text.now)) }
 {
-    let names = match names(alloc, text) {
-        Ok(names) => names,
-        Err(fault) => return Err(fault),
-    };
-    match all_institutions(alloc, names.as_slice()) {
-        Ok(items) => Ok(Institutions::from_vec(items)),
-        Err(fault) => Err(fault),
-    }
+    let names = names(alloc, text)?;
+    let items = all_institutions(alloc, names.as_slice())?;
+    Ok(Institutions::from_vec(items))
 }
 
 // Whether a bid is one of the words.
@@ -264,10 +240,7 @@ pub(crate) fn word(alloc: Global, words: &[BidWord], text: &str) -> Result<Text,
     if !is_word(words, text) {
         return Err(RowFault::Wrong(Code::UnknownWord));
     }
-    match Text::read(alloc, text) {
-        Ok(word) => Ok(word),
-        Err(_) => Err(RowFault::Memory),
-    }
+    Ok(Text::read(alloc, text)?)
 }
 
 // The field at a place.

@@ -7,11 +7,10 @@ ghost use Rattle.csv.specs.Machine.{next_record};
 ghost use Rattle.csv.specs.Reading.{default_config, strip_bom};
 ghost use Rattle.csv.specs.Records.{fields_of};
 ghost use Rattle.csv.specs.declared.parser.State.TheVariants as st;
-ghost use Rattle.bid_import.specs.Files.{is_header, first_number, first_row_of};
+ghost use Rattle.bid_import.specs.Files.{first_number, first_row_of};
 ghost use Rattle.bid_import.specs.Kinds.{columns_of};
 
-use crate::fault::FileKind;
-use crate::fields;
+use crate::file_kind::FileKind;
 use csv::{ByteRecord, ReaderBuilder, StringRecord};
 use std::alloc::{AllocError, Global};
 
@@ -29,21 +28,6 @@ fn first_record(alloc: Global, bytes: &[u8]) -> Result<Option<ByteRecord>, Alloc
     }
 }
 
-fn has_columns(file: FileKind, found: &StringRecord) -> bool
-    ensures { result ≡ is_header (columns_of file) (fields_of found.now) }
-{
-    match file {
-        FileKind::Papers => fields::has_three(found, "paper", "demand", "institutions"),
-        FileKind::Reviewers => {
-            fields::has_four(found, "reviewer", "institution", "least", "greatest")
-        }
-        FileKind::Values => fields::has_three(found, "paper", "reviewer", "value"),
-        FileKind::Bids => fields::has_three(found, "paper", "reviewer", "bid"),
-        FileKind::Marks => fields::has_three(found, "paper", "reviewer", "mark"),
-        FileKind::Caps => fields::has_three(found, "paper", "reviewer", "cap"),
-    }
-}
-
 // The text of a record, where each of its fields is.
 fn text_of(raw: ByteRecord) -> Option<StringRecord>
     ensures { MatchOption result (list_all is_utf8 (fields_of raw) ≡ false) (λ text. (fields_of text ≡ fields_of raw) × (list_all is_utf8 (fields_of raw) ≡ true)) }
@@ -57,11 +41,10 @@ fn text_of(raw: ByteRecord) -> Option<StringRecord>
 fn number_of(file: FileKind, raw: ByteRecord) -> u64
     ensures { result ≡ first_number (columns_of file) (Some (fields_of raw)) }
 {
-    let found = match text_of(raw) {
-        Some(found) => found,
-        None => return 1,
+    let Some(found) = text_of(raw) else {
+        return 1;
     };
-    if has_columns(file, &found) {
+    if file.has_columns(&found) {
         return 2;
     }
     1
@@ -72,9 +55,8 @@ fn number_of(file: FileKind, raw: ByteRecord) -> u64
 pub fn first_row(alloc: Global, file: FileKind, bytes: &[u8]) -> Result<u64, AllocError>
     ensures { IfOk result (λ number. number ≡ first_row_of (columns_of file) bytes.now) }
 {
-    match first_record(alloc, bytes) {
-        Ok(Some(raw)) => Ok(number_of(file, raw)),
-        Ok(None) => Ok(1),
-        Err(error) => Err(error),
+    match first_record(alloc, bytes)? {
+        Some(raw) => Ok(number_of(file, raw)),
+        None => Ok(1),
     }
 }

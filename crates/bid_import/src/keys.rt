@@ -8,7 +8,7 @@ ghost use Rattle.toml.specs.Data.{as_table};
 ghost use Rattle.toml.specs.View.{view, table_view};
 ghost use Rattle.bid_import.specs.Settings.{knows, source_keys, knows_sources, knows_all};
 
-use crate::document::at;
+use crate::document::member;
 use toml::Table;
 
 fn is_known(keys: &[&str], key: &str) -> bool
@@ -72,7 +72,7 @@ pub(crate) fn knows_all(table: &Table) -> bool
     if !knows(&keys, table) {
         return false;
     }
-    match at(table, "source") {
+    match member(table, "source") {
         Some(node) => knows_sources(node),
         None => true,
     }

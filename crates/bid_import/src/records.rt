@@ -1,42 +1,32 @@
-ghost use Rattle.std.specs.Prelude.{◌≡◌, ℕ, ◌≤◌, true, List, Result, OnOk, ◌==◌, ◌&&◌};
-ghost use Rattle.std.specs.List.{list_all};
-ghost use Rattle.std.specs.Str.{is_utf8};
+ghost use Rattle.std.specs.Prelude.{◌≡◌, ℕ, List, Result, OnOk, ◌==◌, ◌&&◌};
 ghost use Rattle.csv.specs.Reading.{error_kind};
 ghost use Rattle.csv.specs.Records.{AllText, fields_of};
 ghost use Rattle.bid_import.specs.declared.fault.Code.{Code};
-ghost use Rattle.bid_import.specs.Files.{is_header, rows_of_file, rest_of, Imports, Reads, Goes, Adds, IsProgress, unread_fault};
+ghost use Rattle.bid_import.specs.declared.file_kind.FileKind.{FileKind};
+ghost use Rattle.bid_import.specs.Files.{is_header, rows_of_file, Imports, Reads};
+ghost use Rattle.bid_import.specs.Kinds.{columns_of, most_records};
+ghost use Rattle.bid_import.specs.RecordLoop.{rest_of, Goes, Adds, IsProgress, unread_fault};
 
 use crate::fault::{Code, ImportFault, RowFault};
+use crate::file_kind::FileKind;
 use csv::{ErrorKind, ReaderBuilder, StringRecord};
 use std::alloc::Global;
 
-/// A kind of file: the names of its columns, the most records that it may have, and how a record reads.
+/// How the records of a kind of file read.
 pub(crate) trait RowKind {
     type Row: Drop;
 
-    ghost columns: { List (List ℕ) };
-
-    ghost most: { ℕ };
+    ghost file: { FileKind };
 
     ghost row_of: { Self → List (List ℕ) → Result Self.Row Code };
 
-    /// Whether the fields are the names of the columns.
-    fn is_header(&self, found: &StringRecord) -> bool
-        ensures { result ≡ is_header columns (fields_of found.now) };
-
-    /// The most records beside the names of the columns.
-    fn most(&self) -> usize
-        ensures { result ≡ most };
+    /// The kind of the file.
+    fn file(&self) -> FileKind
+        ensures { result ≡ file };
 
     /// The row of a record of text.
     fn row(&self, alloc: Global, found: &StringRecord) -> Result<Self::Row, RowFault>
         ensures { Reads result (row_of self.now (fields_of found.now)) };
-
-    ghost texts: { list_all is_utf8 columns ≡ true };
-
-    ghost few: { most ≤ 250000 };
-
-    ghost some: { 1 ≤ most };
 }
 
 // The rows of the records so far, and how many records they were.
@@ -53,10 +43,10 @@ fn put<K: RowKind>(
     found: &StringRecord,
     progress: &mut Progress<K::Row>,
 ) -> Result<(), ImportFault>
-    requires progress { IsProgress K.most progress.old.number progress.old.rows.items }
+    requires progress { IsProgress (most_records K.file) progress.old.number progress.old.rows.items }
     requires text { AllText (fields_of found.now) }
-    ensures goes { Goes result (rest_of (K.row_of kind.now) K.columns K.most progress.old.number progress.old.rows.items) (rest_of (K.row_of kind.now) K.columns K.most progress.new.number progress.new.rows.items) (fields_of found.now) }
-    ensures kept { OnOk result (IsProgress K.most progress.new.number progress.new.rows.items) }
+    ensures goes { Goes result (rest_of (K.row_of kind.now) (columns_of K.file) (most_records K.file) progress.old.number progress.old.rows.items) (rest_of (K.row_of kind.now) (columns_of K.file) (most_records K.file) progress.new.number progress.new.rows.items) (fields_of found.now) }
+    ensures kept { OnOk result (IsProgress (most_records K.file) progress.new.number progress.new.rows.items) }
 {
     let skipped = is_skipped(kind, progress.number, found);
     progress.number += 1;
@@ -68,12 +58,12 @@ fn put<K: RowKind>(
 
 // Whether this is the first record, with the names of the columns.
 fn is_skipped<K: RowKind>(kind: &K, number: u64, found: &StringRecord) -> bool
-    ensures { result ≡ (number == 0) && is_header K.columns (fields_of found.now) }
+    ensures { result ≡ (number == 0) && is_header (columns_of K.file) (fields_of found.now) }
 {
     if number != 0 {
         return false;
     }
-    kind.is_header(found)
+    kind.file().has_columns(found)
 }
 
 // Adds the row of a record.
@@ -84,10 +74,10 @@ fn add<K: RowKind>(
     progress: &mut Progress<K::Row>,
 ) -> Result<(), ImportFault>
     ensures number { progress.new.number ≡ progress.old.number }
-    ensures added { Adds result (K.row_of kind.now) K.most progress.old.number progress.old.rows.items progress.new.rows.items (fields_of found.now) }
+    ensures added { Adds result (K.row_of kind.now) (most_records K.file) progress.old.number progress.old.rows.items progress.new.rows.items (fields_of found.now) }
 {
     let row = progress.number;
-    if progress.rows.len() >= kind.most() {
+    if progress.rows.len() >= kind.file().most_records() {
         return Err(ImportFault::Bad {
             row,
             code: Code::TooMany,
@@ -107,13 +97,13 @@ fn add<K: RowKind>(
 // The fault of a next record that isn't text: one too many, or not UTF-8. Any other error is for want of memory,
 // since a slice is read without fail and records may differ in length.
 fn unread<K: RowKind>(kind: &K, progress: &Progress<K::Row>, error: &csv::Error) -> ImportFault
-    requires { IsProgress K.most progress.now.number progress.now.rows.items }
-    ensures { result ≡ unread_fault (error_kind error.now) K.most progress.now.number progress.now.rows.items }
+    requires { IsProgress (most_records K.file) progress.now.number progress.now.rows.items }
+    ensures { result ≡ unread_fault (error_kind error.now) (most_records K.file) progress.now.number progress.now.rows.items }
 {
     match error.kind() {
         ErrorKind::Utf8 { .. } => ImportFault::Bad {
             row: progress.number + 1,
-            code: if progress.rows.len() < kind.most() {
+            code: if progress.rows.len() < kind.file().most_records() {
                 Code::NotUtf8
             } else {
                 Code::TooMany
@@ -129,7 +119,7 @@ pub(crate) fn read_rows<K: RowKind>(
     kind: &K,
     bytes: &[u8],
 ) -> Result<Vec<K::Row>, ImportFault>
-    ensures { Imports result (rows_of_file (K.row_of kind.now) K.columns K.most bytes.now) }
+    ensures { Imports result (rows_of_file (K.row_of kind.now) (columns_of K.file) (most_records K.file) bytes.now) }
 {
     let mut reader = ReaderBuilder::new()
         .has_headers(false)
@@ -147,9 +137,7 @@ pub(crate) fn read_rows<K: RowKind>(
             Ok(false) => break,
             Err(error) => return Err(unread(kind, &progress, &error)),
         }
-        if let Err(fault) = put(alloc, kind, &found, &mut progress) {
-            return Err(fault);
-        }
+        put(alloc, kind, &found, &mut progress)?;
     }
     Ok(progress.rows)
 }

@@ -3,7 +3,7 @@ ghost use Rattle.toml.specs.View.{table_view};
 ghost use Rattle.bid_import.specs.Documents.{ReadsKey};
 ghost use Rattle.bid_import.specs.Settings.{HasDistinctNames, AscendInBytes, settings_of, settings_of_file, spec_setting, default_settings, ImportsSettings};
 
-use crate::document::{self, KeyFault, TableFault, fixed, read_table};
+use crate::document::{self, KeyFault, TableFault, read_table};
 use crate::fault::{Code, ImportFault, Key};
 use crate::keys::knows_all;
 use crate::sources::{default_sources, sources};
@@ -13,6 +13,9 @@ use score_spec::{Spec, Value};
 use std::alloc::{AllocError, Global};
 use std::marker::Model;
 use toml::Table;
+
+/// The greatest limit of reviewers that a paper may have of one institution.
+pub const MOST_LIMIT: u32 = 1_500;
 
 /// The settings of a venue.
 #[derive(Drop)]
@@ -46,8 +49,8 @@ impl Settings {
         let sources = default_sources(alloc)?;
         let words = default_words(alloc)?;
         Ok(Settings {
-            limit: 1500,
-            cap: fixed(10_000),
+            limit: MOST_LIMIT,
+            cap: Value::from_tenthousandths(10_000),
             all_pairs: false,
             demand: 3,
             load: default_load(),
@@ -59,7 +62,7 @@ impl Settings {
     pub fn limit(&self) -> u32
         ensures same { result ≡ self.now.limit }
         ensures low { 1 ≤ result }
-        ensures high { result ≤ 1500 }
+        ensures high { result ≤ MOST_LIMIT }
     {
         self.limit
     }

@@ -9,7 +9,7 @@ ghost use Rattle.score_spec.specs.Sources.{SourceValue, IsWeight};
 ghost use Rattle.bid_import.specs.Documents.{ReadsKey, ReadsItems};
 ghost use Rattle.bid_import.specs.Settings.{is_name_byte, is_source_name, name_from, kind_word, kind_from, weight_in, weight_from, text_value, optional, source_from, are_distinct, HasDistinctNames, sources_in, sources_from, sources_setting, affinity, each};
 
-use crate::document::{KeyFault, at, fixed, value};
+use crate::document::{KeyFault, member, value};
 use crate::fault::Key;
 use score_spec::{Kind, SourceSpec, Sources, Text, Value};
 use std::alloc::{AllocError, Global};
@@ -52,7 +52,7 @@ fn name_of(node: &toml::Value) -> Option<&str>
 fn name(table: &Table) -> Option<&str>
     ensures { option_map (λ t. t.now) result ≡ option_and_then name_from (get_member (codes "name") (table_view table.now)) }
 {
-    name_of(at(table, "name")?)
+    name_of(member(table, "name")?)
 }
 
 fn kind_word(text: &str) -> Option<Kind>
@@ -76,7 +76,7 @@ fn kind_of(node: &toml::Value) -> Option<Kind>
 fn kind(table: &Table) -> Option<Kind>
     ensures { result ≡ option_and_then kind_from (get_member (codes "kind") (table_view table.now)) }
 {
-    kind_of(at(table, "kind")?)
+    kind_of(member(table, "kind")?)
 }
 
 fn weight_in(number: i64) -> Option<i32>
@@ -100,7 +100,7 @@ fn weight_of(node: &toml::Value) -> Option<i32>
 fn weight(table: &Table) -> Option<i32>
     ensures { result ≡ optional (pos 100) weight_from (get_member (codes "weight") (table_view table.now)) }
 {
-    match at(table, "weight") {
+    match member(table, "weight") {
         Some(node) => weight_of(node),
         None => Some(100),
     }
@@ -109,14 +109,14 @@ fn weight(table: &Table) -> Option<i32>
 fn default(table: &Table) -> Option<Value>
     ensures { result ≡ optional (pos 0) text_value (get_member (codes "default") (table_view table.now)) }
 {
-    match at(table, "default") {
+    match member(table, "default") {
         Some(node) => value(node),
-        None => Some(fixed(0)),
+        None => Some(Value::from_tenthousandths(0)),
     }
 }
 
 // A source of good parts.
-fn made(
+fn source_with(
     alloc: Global,
     name: &str,
     kind: Kind,
@@ -140,7 +140,7 @@ fn source(alloc: Global, table: &Table) -> Result<SourceSpec, KeyFault>
     let kind = kind(table).ok_or(Key::Source)?;
     let weight = weight(table).ok_or(Key::Source)?;
     let default = default(table).ok_or(Key::Source)?;
-    Ok(made(alloc, name, kind, weight, default)?)
+    Ok(source_with(alloc, name, kind, weight, default)?)
 }
 
 fn source_of(alloc: Global, node: &toml::Value) -> Result<SourceSpec, KeyFault>
@@ -210,7 +210,13 @@ fn sources_of(alloc: Global, node: &toml::Value) -> Result<Sources, KeyFault>
 pub(crate) fn default_sources(alloc: Global) -> Result<Sources, AllocError>
     ensures { IfOk result (λ sources. sources ≡ affinity ∷ []) }
 {
-    let source = made(alloc, "affinity", Kind::Values, 100, fixed(0))?;
+    let source = source_with(
+        alloc,
+        "affinity",
+        Kind::Values,
+        100,
+        Value::from_tenthousandths(0),
+    )?;
     let mut sources = Vec::new(alloc);
     sources.push(source)?;
     Ok(Sources::from_vec(sources))
@@ -222,7 +228,7 @@ pub(crate) fn sources(alloc: Global, table: &Table) -> Result<Sources, KeyFault>
     ensures few { IfOk result (λ sources. length sources ≤ 8) }
     ensures names { IfOk result HasDistinctNames }
 {
-    match at(table, "source") {
+    match member(table, "source") {
         Some(node) => sources_of(alloc, node),
         None => Ok(default_sources(alloc)?),
     }

@@ -5,9 +5,9 @@ ghost use Rattle.toml.specs.View.{view, table_view};
 ghost use Rattle.bid_import.specs.Documents.{ReadsKey, ReadsItems};
 ghost use Rattle.bid_import.specs.Settings.{AscendInBytes, bid_word, default_words, word_from, words_from, words_setting, entries, each};
 
-use crate::document::{KeyFault, at, fixed, value};
+use crate::document::{KeyFault, member, value};
 use crate::fault::Key;
-use score_spec::{BidWord, Text, Words};
+use score_spec::{BidWord, Text, Value, Words};
 use std::alloc::{AllocError, Global};
 use toml::Table;
 
@@ -55,7 +55,7 @@ fn word(alloc: Global, text: &str, tenthousandths: i32) -> Result<BidWord, Alloc
     let word = Text::read(alloc, text)?;
     Ok(BidWord {
         word,
-        value: fixed(tenthousandths),
+        value: Value::from_tenthousandths(tenthousandths),
     })
 }
 
@@ -77,7 +77,7 @@ pub(crate) fn words(alloc: Global, table: &Table) -> Result<Words, KeyFault>
     ensures same { ReadsKey result (words_setting (table_view table.now)) }
     ensures order { IfOk result AscendInBytes }
 {
-    match at(table, "bids") {
+    match member(table, "bids") {
         Some(node) => words_of(alloc, node),
         None => Ok(default_words(alloc)?),
     }

@@ -13,6 +13,7 @@ use Rattle.std.specs.declared.cmp.Ordering.{Ordering}
 use Rattle.std.specs.declared.cmp.Ordering.TheVariants.{Less, Equal, Greater}
 use Rattle.std.proofs.lemmas.Cmp.{nat_list_cmp_total, tied_itself}
 use Rattle.std.proofs.lemmas.Map.Lookups.{exact_bytes}
+use Rattle.roster.specs.declared.table.TheConstants.{MOST_ROWS}
 use Rattle.roster.specs.Table.{id_cmp, by_order, AllAbove, Ascend, row_of, place_of, put_row, AllBelow, IsAt, IsGap, IsPlaceFor}
 
 -- the order of ids
@@ -295,7 +296,7 @@ module _ {R : Type 0} (key : R → List ℕ) where
 
   -- after a put that may have failed
 
-  pub few-after : {E : Type 0} (r : Result (Unit {0}) E) (new : R) (old now : List R) (i : ℕ) → OnOk r (now ≡ put_row key new old) → OnErr r (now ≡ old) → IsGap key (key new) old i → length old < 1500 → length now ≤ 1500
+  pub few-after : {E : Type 0} (r : Result (Unit {0}) E) (new : R) (old now : List R) (i : ℕ) → OnOk r (now ≡ put_row key new old) → OnErr r (now ≡ old) → IsGap key (key new) old i → length old < MOST_ROWS → length now ≤ MOST_ROWS
   few-after (Ok u) new old now i put kept gap few = omega (arith, ap length put, length-put_none new old i gap)
   few-after (Err e) new old now i put kept gap few = omega (arith, ap length kept)
 

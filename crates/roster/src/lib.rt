@@ -4,12 +4,10 @@
 mod load;
 mod rows;
 mod table;
-#[cfg(test)]
-mod tests;
 
-pub use load::Load;
+pub use load::{Load, MOST_LOAD};
 pub use rows::{Institutions, PaperRow, ReviewerRow};
-pub use table::{RosterFault, Row, Table};
+pub use table::{MOST_ROWS, RosterFault, Row, Table};
 
 /// The papers of a venue, at most 1,500, in the order of their ids' bytes.
 pub type Papers = Table<PaperRow>;

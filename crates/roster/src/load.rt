@@ -1,5 +1,8 @@
 use std::marker::Model;
 
+/// The most papers that a reviewer may be asked to take.
+pub const MOST_LOAD: u32 = 1_500;
+
 /// How many papers a reviewer takes: at least `least` and at most `greatest`, which is at most 1,500.
 #[derive(Clone, Copy, PartialEq, Eq, Debug)]
 pub struct Load {
@@ -10,12 +13,13 @@ pub struct Load {
 impl Model for Load {
     ghost use Rattle.std.specs.Prelude.{◌≤◌};
     ghost use Rattle.roster.specs.Loads.{LoadValue};
+    ghost use Rattle.roster.specs.declared.load.TheConstants.{MOST_LOAD};
 
     ghost Value = { LoadValue };
 
     ghost view = { λ l. record { least = l.least; greatest = l.greatest } };
 
-    ghost invariant = { λ l. (l.least ≤ l.greatest) × (l.greatest ≤ 1500) };
+    ghost invariant = { λ l. (l.least ≤ l.greatest) × (l.greatest ≤ MOST_LOAD) };
 
     ghost inverse = { λ v. record { least = v.least; greatest = v.greatest } };
 }
@@ -31,7 +35,7 @@ impl Load {
         if least > greatest {
             return None;
         }
-        if greatest > 1500 {
+        if greatest > MOST_LOAD {
             return None;
         }
         Some(Load { least, greatest })
@@ -48,7 +52,7 @@ impl Load {
     /// The greatest number of papers.
     pub fn greatest(self) -> u32
         ensures same { result ≡ self.greatest }
-        ensures few { result ≤ 1500 }
+        ensures few { result ≤ MOST_LOAD }
     {
         self.greatest
     }

@@ -88,18 +88,19 @@ pub struct ReviewerRow {
     pub load: Option<Load>,
 }
 
-fn copy_of(
-    alloc: Global,
-    institution: &Option<Institution>,
-) -> Result<Option<Institution>, AllocError>
-    ensures { IfOk result (λ copy. copy ≡ institution.now) }
-{
-    match institution {
-        Some(name) => {
-            let copy = name.copy(alloc)?;
-            Ok(Some(copy))
+impl ReviewerRow {
+    ghost use Rattle.std.specs.Prelude.{◌≡◌, true, IfOk, IfSome, OnOk};
+    ghost use Rattle.match_rules.specs.Id.{is_institution};
+
+    /// An equal institution, where the reviewer has one.
+    pub fn copy_institution(&self, alloc: Global) -> Result<Option<Institution>, AllocError>
+        ensures same { IfOk result (λ copy. copy ≡ self.now.institution) }
+        ensures good { OnOk result (IfSome self.now.institution (λ name. is_institution name ≡ true)) }
+    {
+        match &self.institution {
+            Some(institution) => Ok(Some(institution.copy(alloc)?)),
+            None => Ok(None),
         }
-        None => Ok(None),
     }
 }
 
@@ -112,7 +113,7 @@ impl Row for ReviewerRow {
 
     fn copy(&self, alloc: Global) -> Result<Self, AllocError> {
         let id = self.id.copy(alloc)?;
-        let institution = copy_of(alloc, &self.institution)?;
+        let institution = self.copy_institution(alloc)?;
         Ok(ReviewerRow {
             id,
             institution,

@@ -8,6 +8,9 @@ use std::alloc::{AllocError, Global};
 use std::cmp::Ordering;
 use std::marker::Model;
 
+/// The most rows of a table of papers or of reviewers.
+pub const MOST_ROWS: u32 = 1_500;
+
 /// A row of a table, found by its key.
 pub trait Row: Drop {
     ghost key: { Self → List ℕ };
@@ -38,14 +41,14 @@ pub struct Table<R: Row> {
 
 impl<R: Row> Model for Table<R> {
     ghost use Rattle.std.specs.Prelude.{List, ◌≤◌, length};
+    ghost use Rattle.roster.specs.Table.{Ascend};
+    ghost use Rattle.roster.specs.declared.table.TheConstants.{MOST_ROWS};
 
     ghost Value = { List R };
 
-    ghost use Rattle.roster.specs.Table.{Ascend};
-
     ghost view = { λ t. t.rows.items };
 
-    ghost invariant = { λ t. Ascend R.key t.rows.items × (length t.rows.items ≤ 1500) };
+    ghost invariant = { λ t. Ascend R.key t.rows.items × (length t.rows.items ≤ MOST_ROWS) };
 }
 
 // Where the row with this key is, or where it would go.
@@ -94,13 +97,13 @@ fn add<R: Row>(rows: &mut Vec<R>, place: usize, row: R) -> Result<(), RosterFaul
 
 fn put<R: Row>(rows: &mut Vec<R>, row: R) -> Result<(), RosterFault>
     requires ascend { Ascend R.key rows.old.items }
-    requires few { length rows.old.items ≤ 1500 }
+    requires few { length rows.old.items ≤ MOST_ROWS }
     ensures put { OnOk result (rows.new.items ≡ put_row R.key row rows.old.items) }
-    ensures full { (result ≡ Err (RosterFault.TooMany 1500)) ↔ ((row_of R.key (R.key row) rows.old.items ≡ None) × (length rows.old.items ≡ 1500)) }
-    ensures limit { (count : ℕ) → result ≡ Err (RosterFault.TooMany count) → count ≡ 1500 }
+    ensures full { (result ≡ Err (RosterFault.TooMany MOST_ROWS)) ↔ ((row_of R.key (R.key row) rows.old.items ≡ None) × (length rows.old.items ≡ MOST_ROWS)) }
+    ensures limit { (count : ℕ) → result ≡ Err (RosterFault.TooMany count) → count ≡ MOST_ROWS }
     ensures known { IsSome (row_of R.key (R.key row) rows.old.items) → IsOk result }
     ensures kept { OnErr result (rows.new.items ≡ rows.old.items) }
-    ensures few { length rows.new.items ≤ 1500 }
+    ensures few { length rows.new.items ≤ MOST_ROWS }
 {
     match find(rows.as_slice(), row.key()) {
         Ok(place) => {
@@ -108,8 +111,8 @@ fn put<R: Row>(rows: &mut Vec<R>, row: R) -> Result<(), RosterFault>
             Ok(())
         }
         Err(place) => {
-            if rows.len() >= 1500 {
-                return Err(RosterFault::TooMany { count: 1500 });
+            if rows.len() >= MOST_ROWS as usize {
+                return Err(RosterFault::TooMany { count: MOST_ROWS });
             }
             add(rows, place, row)
         }
@@ -137,7 +140,7 @@ impl<R: Row> Table<R> {
     pub fn rows(&self) -> &[R]
         ensures same { result.now ≡ self.now }
         ensures ascend { Ascend R.key self.now }
-        ensures few { length self.now ≤ 1500 }
+        ensures few { length self.now ≤ MOST_ROWS }
     {
         self.rows.as_slice()
     }
@@ -185,10 +188,11 @@ impl<R: Row> Table<R> {
         ensures put { OnOk result (self.new ≡ put_row R.key row self.old) }
         ensures stands { OnOk result (row_of R.key (R.key row) self.new ≡ Some row) }
         ensures others { OnOk result ((id : List ℕ) → id ≢ R.key row → row_of R.key id self.new ≡ row_of R.key id self.old) }
-        ensures full { (result ≡ Err (RosterFault.TooMany 1500)) ↔ ((row_of R.key (R.key row) self.old ≡ None) × (length self.old ≡ 1500)) }
-        ensures limit { (count : ℕ) → result ≡ Err (RosterFault.TooMany count) → count ≡ 1500 }
+        ensures full { (result ≡ Err (RosterFault.TooMany MOST_ROWS)) ↔ ((row_of R.key (R.key row) self.old ≡ None) × (length self.old ≡ MOST_ROWS)) }
+        ensures limit { (count : ℕ) → result ≡ Err (RosterFault.TooMany count) → count ≡ MOST_ROWS }
         ensures known { IsSome (row_of R.key (R.key row) self.old) → IsOk result }
         ensures kept { OnErr result (self.new ≡ self.old) }
+        ensures few { length self.old ≤ MOST_ROWS }
     {
         put(&mut self.rows, row)
     }

@@ -9,6 +9,7 @@ use Rattle.std.specs.declared.cmp.Ordering.TheVariants.{Less, Equal, Greater}
 use Rattle.match_rules.specs.Id.{is_id}
 use Rattle.roster.specs.Table.{id_cmp, by_order, AllAbove, AllBelow, Ascend, row_of}
 use Rattle.roster.proofs.Tables.{id_same, id_trans, id_turned, id_turned_back, id_itself, ascend-put, row_of-put, row_of-others}
+use Rattle.score_spec.specs.declared.pairs.TheConstants.{MOST_PAIR_ROWS}
 use Rattle.score_spec.specs.PairTables.{Entry, Entries, entry_id, value_of, put_value, without, PairsValue, reviewers_of, value_of_pair, put_pair, pair_count, AreIds, AreReviewers, HaveReviewers, ArePairs, IsPairTable}
 
 -- two ids are the same or not
@@ -36,13 +37,13 @@ differ a b ne = on (is_eq (id_cmp a b)) refl
     on false e = refl
 
 -- a pair that finds room adds no row too many
-pub has-room : (count pairs : ℕ) (has : Bool) (more : ℕ) → count ≡ pairs → count ≤ 250000 → ((pairs == 250000) && not has) ≡ false → more ≡ (if has then 0 else 1) → count + more ≤ 250000
+pub has-room : (count pairs : ℕ) (has : Bool) (more : ℕ) → count ≡ pairs → count ≤ MOST_PAIR_ROWS → ((pairs == MOST_PAIR_ROWS) && not has) ≡ false → more ≡ (if has then 0 else 1) → count + more ≤ MOST_PAIR_ROWS
 has-room count pairs true more is few room m = omega (arith, is, few, m)
-has-room count pairs false more is few room m = on (pairs == 250000) refl room
+has-room count pairs false more is few room m = on (pairs == MOST_PAIR_ROWS) refl room
   where
-    on : (full : Bool) → (pairs == 250000) ≡ full → (full && true) ≡ false → count + more ≤ 250000
+    on : (full : Bool) → (pairs == MOST_PAIR_ROWS) ≡ full → (full && true) ≡ false → count + more ≤ MOST_PAIR_ROWS
     on true e room = absurd cc
-    on false e room = let less : pairs ≢ 250000 = eqb-false pairs 250000 e in omega (arith, is, few, m, less)
+    on false e room = let less : pairs ≢ MOST_PAIR_ROWS = eqb-false pairs MOST_PAIR_ROWS e in omega (arith, is, few, m, less)
 
 module _ {V : Type 0} where
   abbrev pub entry : List ℕ → V → Entry V
@@ -267,9 +268,9 @@ module _ {V : Type 0} where
       omega (arith, count-value paper (put_value reviewer value old) table pairs.papers, length-put reviewer value old (ascend-found paper table pairs.reviewers))
 
   pub table-put : (paper reviewer : List ℕ) (value : V) (table : PairsValue V) (count more : ℕ) → is_id paper ≡ true → is_id reviewer ≡ true → IsPairTable table count → more ≡ (if is_some (value_of_pair table paper reviewer) then 0 else 1)
-      → count + more ≤ 250000 → IsPairTable (put_pair paper reviewer value table) (count + more)
+      → count + more ≤ MOST_PAIR_ROWS → IsPairTable (put_pair paper reviewer value table) (count + more)
   table-put paper reviewer value table count more good_paper good_reviewer whole more_is few = record {
     pairs = pairs-put paper reviewer value table good_paper good_reviewer whole.pairs;
-    counted = omega (arith, whole.counted, more_is, count-put paper reviewer value table whole.pairs);
+    exact = omega (arith, whole.exact, more_is, count-put paper reviewer value table whole.pairs);
     few = few;
   }

@@ -4,6 +4,7 @@ use Rattle.std.specs.Option.{option_map}
 use Rattle.std.specs.Ordering.{is_eq}
 use Rattle.match_rules.specs.Id.{is_id}
 use Rattle.roster.specs.Table.{Ascend, id_cmp, row_of, put_row}
+use Rattle.score_spec.specs.declared.pairs.TheConstants.{MOST_PAIR_ROWS}
 
 -- an id with what stands for it
 pub record Entry (V : Type 0) : Type 0 where
@@ -64,7 +65,7 @@ pair_count (paper ∷ table) = length paper.value + pair_count table
 
 -- the pair has no value, and as many pairs have one as may
 abbrev pub HasNoRoom : {V : Type 0} → PairsValue V → List ℕ → List ℕ → Type 0
-HasNoRoom table paper reviewer = (value_of_pair table paper reviewer ≡ None) × (pair_count table ≡ 250000)
+HasNoRoom table paper reviewer = (value_of_pair table paper reviewer ≡ None) × (pair_count table ≡ MOST_PAIR_ROWS)
 
 -- each is spelled as an id
 abbrev pub AreIds : {V : Type 0} → Entries V → Type 0
@@ -88,8 +89,8 @@ pub record ArePairs {V : Type 0} (table : PairsValue V) : Type 0 where
   pub papers : Ascend entry_id table
   pub reviewers : HaveReviewers table
 
--- a table of at most 250,000 pairs, with their count
+-- a table of pairs, no more than there may be, with their count
 pub record IsPairTable {V : Type 0} (table : PairsValue V) (count : ℕ) : Type 0 where
   pub pairs : ArePairs table
-  pub counted : count ≡ pair_count table
-  pub few : count ≤ 250000
+  pub exact : count ≡ pair_count table
+  pub few : count ≤ MOST_PAIR_ROWS

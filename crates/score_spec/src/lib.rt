@@ -10,8 +10,6 @@ mod paper_scores;
 mod scan;
 mod scores;
 mod spec;
-#[cfg(test)]
-mod tests;
 mod text;
 mod union;
 mod weighing;
@@ -19,7 +17,7 @@ mod weighing;
 pub use by_id::{ById, TableValue};
 pub use examples::{worked_scores, worked_tables};
 pub use numbers::{NumberFault, Value, read_value};
-pub use pairs::{PairTable, ScoresFault};
+pub use pairs::{MOST_PAIR_ROWS, PairTable, ScoresFault};
 pub use paper_scores::PaperScores;
 pub use scores::Scores;
 pub use spec::{BidWord, Kind, SourceSpec, Sources, Spec, Words};

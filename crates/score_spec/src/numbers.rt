@@ -49,7 +49,8 @@ impl Value {
         Some(Value { tenthousandths })
     }
 
-    pub(crate) fn of(tenthousandths: i32) -> Value
+    /// The value of this many ten-thousandths, which is one.
+    pub fn from_tenthousandths(tenthousandths: i32) -> Value
         requires low { neg_ℤ (pos 100000) ≤ℤ tenthousandths }
         requires high { tenthousandths ≤ℤ pos 100000 }
         ensures { result ≡ tenthousandths }

@@ -8,6 +8,9 @@ use match_rules::{PaperId, ReviewerId};
 use std::alloc::{AllocError, Global};
 use std::marker::Model;
 
+/// The most rows of a table of values, bids, marks or caps, each of which has a pair of its own.
+pub const MOST_PAIR_ROWS: u32 = 250_000;
+
 /// Why a row was not put.
 #[derive(Clone, Copy, PartialEq, Eq, Debug)]
 pub enum ScoresFault {
@@ -76,7 +79,7 @@ impl<V> PairTable<V> {
     /// The number of pairs that have a value.
     pub fn len(&self) -> u32
         ensures count { result ≡ pair_count self.now }
-        ensures few { result ≤ 250000 }
+        ensures few { result ≤ MOST_PAIR_ROWS }
     {
         self.count
     }
@@ -105,9 +108,9 @@ impl<V> PairTable<V> {
 
     // Whether the pair has no value, and as many pairs have one as may.
     fn has_no_room(&self, paper: &str, reviewer: &str) -> bool
-        ensures { result ≡ ((pair_count self.now == 250000) && not (has_pair self.now paper.now reviewer.now)) }
+        ensures { result ≡ ((pair_count self.now == MOST_PAIR_ROWS) && not (has_pair self.now paper.now reviewer.now)) }
     {
-        self.count == 250_000 && self.get(paper, reviewer).is_none()
+        self.count == MOST_PAIR_ROWS && self.get(paper, reviewer).is_none()
     }
 
     /// Puts a value for a pair, in place of the one that it had. Takes memory where the pair is new.
@@ -120,6 +123,7 @@ impl<V> PairTable<V> {
         ensures full { (result ≡ Err ScoresFault.TooMany) ↔ HasNoRoom self.old paper reviewer }
         ensures known { IsSome (value_of_pair self.old paper reviewer) → IsOk result }
         ensures kept { OnErr result (self.new ≡ self.old) }
+        ensures few { pair_count self.old ≤ MOST_PAIR_ROWS }
     {
         if self.has_no_room(paper.text(), reviewer.text()) {
             return Err(ScoresFault::TooMany);

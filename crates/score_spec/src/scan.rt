@@ -89,9 +89,9 @@ impl Sign {
         ensures { result ≡ signed self magnitude }
     {
         match self {
-            Sign::Absent => Value::of(magnitude as i32),
-            Sign::Plus => Value::of(magnitude as i32),
-            Sign::Minus => Value::of(-(magnitude as i32)),
+            Sign::Absent => Value::from_tenthousandths(magnitude as i32),
+            Sign::Plus => Value::from_tenthousandths(magnitude as i32),
+            Sign::Minus => Value::from_tenthousandths(-(magnitude as i32)),
         }
     }
 }

@@ -1,14 +1,12 @@
-ghost use Rattle.std.specs.Prelude.{◌≡◌, ◌&&◌, ◌↔◌, ◌≢◌, [], ℕ, List, Some, Err, IsSome, IsOk, IfOk, OnOk, OnErr, if◌then◌else◌, filter, string_bytes};
+ghost use Rattle.std.specs.Prelude.{◌≡◌, ◌↔◌, ◌≢◌, ◌≤◌, [], ℕ, List, Some, Err, IsSome, IsOk, IfOk, OnOk, OnErr, if◌then◌else◌, filter, string_bytes};
 ghost use Rattle.std.specs.Option.{option_copied};
-ghost use Rattle.std.specs.Ordering.{is_eq};
-ghost use Rattle.roster.specs.Table.{id_cmp};
-ghost use Rattle.score_spec.specs.Scores.{has_values, is_values, table_in};
-ghost use Rattle.score_spec.specs.PairTables.{HasNoRoom, OthersStay, put_pair, put_value, value_of, value_of_pair};
+ghost use Rattle.score_spec.specs.Scores.{has_values, table_in};
+ghost use Rattle.score_spec.specs.PairTables.{HasNoRoom, OthersStay, pair_count, put_pair, put_value, value_of, value_of_pair};
 
 use crate::by_id::{ById, TableValue};
 use crate::numbers::Value;
-use crate::pairs::{PairTable, ScoresFault};
-use crate::spec::{Kind, SourceSpec, Spec};
+use crate::pairs::{MOST_PAIR_ROWS, PairTable, ScoresFault};
+use crate::spec::{Sources, Spec};
 use crate::text::Text;
 use crate::union::{PairKey, keys_of, union_of};
 use match_rules::{PaperId, ReviewerId};
@@ -31,7 +29,7 @@ fn put_table(
 }
 
 // Puts a value into the table of a source.
-fn put_in(
+fn put_into_source(
     alloc: Global,
     tables: &mut ById<PairTable<Value>>,
     source: &str,
@@ -43,6 +41,7 @@ fn put_in(
     ensures full { (result ≡ Err ScoresFault.TooMany) ↔ HasNoRoom (table_in tables.old source.now) paper reviewer }
     ensures known { IsSome (value_of_pair (table_in tables.old source.now) paper reviewer) → IsOk result }
     ensures kept { OnErr result (tables.new ≡ tables.old) }
+    ensures few { pair_count (table_in tables.old source.now) ≤ MOST_PAIR_ROWS }
 {
     if let Some(table) = tables.get_mut(source) {
         return table.put(paper, reviewer, value);
@@ -55,25 +54,15 @@ fn put_in(
     }
 }
 
-// Whether a source of values has the name.
-fn has_values(sources: &[SourceSpec], name: &str) -> bool
-    ensures { result ≡ has_values sources.now name.now }
-{
-    sources.iter().any(
-        |source| -> bool
-            ensures { result ≡ (is_values source.now.kind && is_eq (id_cmp source.now.name name.entry.now)) }
-        { source.kind() == Kind::Values && source.name().cmp(name).is_eq() },
-    )
-}
-
-fn keep_tables(tables: &mut ById<PairTable<Value>>, sources: &[SourceSpec])
+// Keeps the tables of these sources of values alone.
+fn keep_tables(tables: &mut ById<PairTable<Value>>, sources: &Sources)
     ensures { tables.new ≡ filter (λ entry. has_values sources.now entry.id) tables.old }
 {
     tables.map.retain(
         |id, table| -> bool
             ensures keeps { result ≡ has_values sources.entry.now (string_bytes id.now) }
             ensures same { table.new ≡ table.old }
-        { has_values(sources, id.as_str()) },
+        { sources.has_values(id.as_str()) },
     );
 }
 
@@ -144,11 +133,13 @@ impl Scores {
         ensures full { (result ≡ Err ScoresFault.TooMany) ↔ HasNoRoom (table_of self.old source.now) paper reviewer }
         ensures known { IsSome (value_of_pair (table_of self.old source.now) paper reviewer) → IsOk result }
         ensures kept { OnErr result (self.new ≡ self.old) }
+        ensures few { pair_count (table_of self.old source.now) ≤ MOST_PAIR_ROWS }
     {
-        put_in(self.alloc, &mut self.values, source, paper, reviewer, value)
+        put_into_source(self.alloc, &mut self.values, source, paper, reviewer, value)
     }
 
-    /// Puts the word that was bid for a pair, in place of the one that it had.
+    /// Puts the word that was bid for a pair, in place of the one that it had. A word is a `Text` and no `String`, so that
+    /// the contracts of the table see its bytes.
     pub fn put_bid(
         &mut self,
         paper: PaperId,
@@ -162,6 +153,7 @@ impl Scores {
         ensures full { (result ≡ Err ScoresFault.TooMany) ↔ HasNoRoom self.old.bids paper reviewer }
         ensures known { IsSome (value_of_pair self.old.bids paper reviewer) → IsOk result }
         ensures kept { OnErr result (self.new ≡ self.old) }
+        ensures few { pair_count self.old.bids ≤ MOST_PAIR_ROWS }
     {
         self.bids.put(paper, reviewer, word)
     }
@@ -190,7 +182,7 @@ impl Scores {
         ensures tables { (name : List ℕ) → table_of self.new name ≡ (if has_values spec.now.sources name then table_of self.old name else []) }
         ensures bids { self.new.bids ≡ self.old.bids }
     {
-        keep_tables(&mut self.values, spec.sources.as_slice());
+        keep_tables(&mut self.values, &spec.sources);
     }
 
     /// The pairs that have a value by some source or a bid, by paper and then by reviewer.

@@ -137,11 +137,34 @@ impl Model for Sources {
 }
 
 impl Sources {
+    ghost use Rattle.std.specs.Prelude.{◌≡◌, ◌&&◌, IfOk};
+    ghost use Rattle.std.specs.Ordering.{is_eq};
+    ghost use Rattle.roster.specs.Table.{id_cmp};
+    ghost use Rattle.score_spec.specs.Scores.{has_values, is_values};
+
     /// The sources of a vector, without taking memory.
     pub fn from_vec(items: Vec<SourceSpec>) -> Self
         ensures { result ≡ items.items }
     {
         Sources { items }
+    }
+
+    /// The vector of these sources, without taking memory.
+    pub fn into_vec(self) -> Vec<SourceSpec>
+        ensures { result.items ≡ self }
+    {
+        self.items
+    }
+
+    /// Whether a source of values has the name.
+    pub fn has_values(&self, name: &str) -> bool
+        ensures { result ≡ has_values self.now name.now }
+    {
+        self.items.iter().any(
+            |source| -> bool
+                ensures { result ≡ (is_values source.now.kind && is_eq (id_cmp source.now.name name.entry.now)) }
+            { source.kind() == Kind::Values && source.name().cmp(name).is_eq() },
+        )
     }
 
     /// The sources as a slice.
@@ -184,6 +207,13 @@ impl Words {
         ensures { result ≡ items.items }
     {
         Words { items }
+    }
+
+    /// The vector of these words, without taking memory.
+    pub fn into_vec(self) -> Vec<BidWord>
+        ensures { result.items ≡ self }
+    {
+        self.items
     }
 
     /// The words as a slice.

@@ -1,5 +1,6 @@
 -- A key that is there has a place and one that isn't has a gap.
 use Rattle.std.proofs.Common.{◌<◌, refl, ap, arith, length}
+use Rattle.roster.specs.declared.table.TheConstants.{MOST_ROWS}
 use Rattle.roster.specs.Table.{IsAt, IsGap, row_of}
 use Rattle.roster.proofs.Tables.{found_row, missing, missing-known, length-put_some, few-after}
 use Rattle.roster.proofs.table.put.Given.{Over}
@@ -24,26 +25,26 @@ returns-in-Ok-clause-few g c =
     let same = length-put_some g.R.Row.key c.args.row c.args.rows.now.items c.in-Ok.place here in
     omega (arith, ap length c.replace.ensures, same, c.requires.few)
 
-pub returns-then-len-ge1500-clause-full : goal.returns-then-len-ge1500-clause-full
-returns-then-len-ge1500-clause-full g c =
-    let open_gap = gap g ((goal.at.returns-then-len-ge1500-clause-full g c).In-Err) in
+pub returns-then-len-clause-full : goal.returns-then-len-clause-full
+returns-then-len-clause-full g c =
+    let open_gap = gap g ((goal.at.returns-then-len-clause-full g c).In-Err) in
     let none = missing g.R.Row.key (g.R.Row.key c.args.row) c.args.rows.now.items c.in-Err.place open_gap in
     (λ e. (none.1, omega (arith, c.requires.few, c.args.rows.now.ok.0)), λ h. refl)
 
-pub returns-else-len-ge1500-clause-few : goal.returns-else-len-ge1500-clause-few
-returns-else-len-ge1500-clause-few g c =
-    let open_gap = gap g ((goal.at.returns-else-len-ge1500-clause-few g c).In-Err) in
-    let room : length c.args.rows.now.items < 1500 = omega (arith, c.args.rows.now.ok.0) in
+pub returns-else-len-clause-few : goal.returns-else-len-clause-few
+returns-else-len-clause-few g c =
+    let open_gap = gap g ((goal.at.returns-else-len-clause-few g c).In-Err) in
+    let room : length c.args.rows.now.items < MOST_ROWS = omega (arith, c.args.rows.now.ok.0) in
     few-after g.R.Row.key c.add.result c.args.row c.args.rows.now.items c.add.new.rows.items c.in-Err.place c.add.ensures.put c.add.ensures.kept open_gap room
 
-pub returns-then-len-ge1500-clause-known : goal.returns-then-len-ge1500-clause-known
-returns-then-len-ge1500-clause-known g c =
-    let open_gap = gap g ((goal.at.returns-then-len-ge1500-clause-known g c).In-Err) in
+pub returns-then-len-clause-known : goal.returns-then-len-clause-known
+returns-then-len-clause-known g c =
+    let open_gap = gap g ((goal.at.returns-then-len-clause-known g c).In-Err) in
     let none = (missing g.R.Row.key (g.R.Row.key c.args.row) c.args.rows.now.items c.in-Err.place open_gap).1 in
     λ some. absurd (missing-known (row_of g.R.Row.key (g.R.Row.key c.args.row) c.args.rows.now.items) none some)
 
-pub returns-else-len-ge1500-clause-known : goal.returns-else-len-ge1500-clause-known
-returns-else-len-ge1500-clause-known g c =
-    let open_gap = gap g ((goal.at.returns-else-len-ge1500-clause-known g c).In-Err) in
+pub returns-else-len-clause-known : goal.returns-else-len-clause-known
+returns-else-len-clause-known g c =
+    let open_gap = gap g ((goal.at.returns-else-len-clause-known g c).In-Err) in
     let none = (missing g.R.Row.key (g.R.Row.key c.args.row) c.args.rows.now.items c.in-Err.place open_gap).1 in
     λ some. absurd (missing-known (row_of g.R.Row.key (g.R.Row.key c.args.row) c.args.rows.now.items) none some)

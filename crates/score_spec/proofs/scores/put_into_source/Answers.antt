@@ -1,7 +1,7 @@
 use Rattle.std.proofs.Common.{[], sym}
 use Rattle.score_spec.specs.PairTables.{put_pair}
 use Rattle.score_spec.proofs.PairTables.{put-through, kept-through}
-use Rattle.score_spec.proofs.scores.put_in.Goals as goal
+use Rattle.score_spec.proofs.scores.put_into_source.Goals as goal
 
 pub returns-in-Some-clause-put : goal.returns-in-Some-clause-put
 returns-in-Some-clause-put c =
