@@ -3,12 +3,13 @@ use Rattle.std.proofs.Common.{◌≡◌, ℕ, ◌≤◌, List, [], length, drop,
 use Rattle.std.specs.Prelude.{Result, Ok, Err}
 use Rattle.std.proofs.lemmas.List.{drop_all}
 use Rattle.edge_io.specs.FileValues.{FileValue}
+use Rattle.bid_import.specs.Results.{◌>>=◌}
 use Rattle.edge_io.specs.Files.{file_named, told_files}
 use Rattle.editions.specs.declared.edit.TableName.{TableName}
 use Rattle.editions.specs.declared.edit.TableName.TheVariants.{Settings}
 use Rattle.editions.specs.declared.fault.LoadFault.{LoadFault}
 use Rattle.editions.specs.declared.fault.LoadFault.TheVariants.{Memory, Folder, Bad, Limit}
-use Rattle.editions.specs.Loads.{Loaded, Loads, ReadsFiles, then_load, after_file, after_files, file_of, tables_of, venue_in}
+use Rattle.editions.specs.Loads.{Loaded, Loads, ReadsFiles, after_file, after_files, file_of, tables_of, venue_in}
 use Rattle.editions.specs.Venues.{VenueValue, empty_venue}
 
 -- what is known of the files, and what follows from it
@@ -23,7 +24,7 @@ reads_more old mid new A B C first second so = record {
   answer = λ t. so (told_files old) (first.answer (second.untold t)) (subst B (first.same (second.untold t)) (second.answer t));
 }
 
-then_load_fails : (fault : LoadFault) (loaded : Loaded) (more : VenueValue → Loaded) → Loads (Err fault) loaded → Loads (Err fault) (then_load loaded more)
+then_load_fails : (fault : LoadFault) (loaded : Loaded) (more : VenueValue → Loaded) → Loads (Err fault) loaded → Loads (Err fault) (loaded >>= more)
 then_load_fails Memory loaded more h = tt
 then_load_fails Folder loaded more h = tt
 then_load_fails (Bad file row code) loaded more h = rw h refl

@@ -14,10 +14,11 @@ use Rattle.roster.specs.declared.rows.PaperRow.{PaperRow}
 use Rattle.score_spec.specs.PairTables.{Entry, Entries, PairsValue, entry_id, put_value, reviewers_of, put_pair}
 use Rattle.bid_import.specs.declared.fault.Code.{Code}
 use Rattle.bid_import.specs.declared.rows.CapRow.{CapRow}
-use Rattle.bid_import.specs.Fields.{then_of, id_of, count_of, demand_from, demand_of, names_in, institutions_of, value_of as value_text, cap_from, paper_of, cap_row_of, from_three, three_of}
+use Rattle.bid_import.specs.Fields.{id_of, count_of, demand_from, demand_of, names_in, institutions_of, value_of as value_text, cap_from, paper_of, cap_row_of, from_three, three_of}
 use Rattle.bid_import.specs.Files.{rows_of_file, first_row_of}
 use Rattle.bid_import.specs.Kinds.{paper_row, paper_columns, cap_row, cap_columns}
-use Rattle.editions.specs.Edits.{Made, then_make, papers_after, caps_after}
+use Rattle.bid_import.specs.Results.{◌>>=◌}
+use Rattle.editions.specs.Edits.{papers_after, caps_after}
 use Rattle.editions.specs.Puts.{put_all, paper_has_room, put_paper, cap_has_room, put_cap_row}
 use Rattle.editions.specs.Venues.{paper_key, IsDemand, IsCap}
 use Rattle.editions.proofs.Rows.{rows_are}
@@ -74,13 +75,9 @@ put_all_keeps P Q has_room put keeps number table (row ∷ rows) new q all h =
 
 -- what was made, of what was made before
 
-then_made : {A B : Type 0} (made : Made A) (more : A → Made B) (b : B) → then_make made more ≡ Ok b → (a : A) × (made ≡ Ok a) × (more a ≡ Ok b)
+then_made : {A B E : Type 0} (made : Result A E) (more : A → Result B E) (b : B) → made >>= more ≡ Ok b → (a : A) × (made ≡ Ok a) × (more a ≡ Ok b)
 then_made (Ok a) more b h = (a, refl, h)
 then_made (Err fault) more b h = absurd (cc)
-
-then_read : {A B : Type 0} (read : Result A Code) (more : A → Result B Code) (b : B) → then_of read more ≡ Ok b → (a : A) × (read ≡ Ok a) × (more a ≡ Ok b)
-then_read (Ok a) more b h = (a, refl, h)
-then_read (Err code) more b h = absurd (cc)
 
 -- the demand of a paper is at most 100
 
@@ -101,9 +98,9 @@ demand_fits text demand h =
 
 paper_fits : (a b c : List ℕ) (row : PaperRow) → paper_of a b c ≡ Ok row → IsDemand row.demand
 paper_fits a b c row h =
-    let id = then_read (id_of a) _ row h in
-    let demand = then_read (demand_of b) _ row id.2 in
-    let names = then_read (institutions_of (names_in c)) _ row demand.2 in
+    let id = then_made (id_of a) _ row h in
+    let demand = then_made (demand_of b) _ row id.2 in
+    let names = then_made (institutions_of (names_in c)) _ row demand.2 in
     let same : row.demand ≡ demand.0 = cc names.2 in
     rw same (demand_fits b demand.0 demand.1)
 
@@ -128,10 +125,10 @@ cap_from_fits value cap h =
 
 cap_fits : (a b c : List ℕ) (row : CapRow) → cap_row_of a b c ≡ Ok row → IsCap row.cap
 cap_fits a b c row h =
-    let paper = then_read (id_of a) _ row h in
-    let reviewer = then_read (id_of b) _ row paper.2 in
-    let cap = then_read (then_of (value_text c) cap_from) _ row reviewer.2 in
-    let value = then_read (value_text c) cap_from cap.0 cap.1 in
+    let paper = then_made (id_of a) _ row h in
+    let reviewer = then_made (id_of b) _ row paper.2 in
+    let cap = then_made (value_text c >>= cap_from) _ row reviewer.2 in
+    let value = then_made (value_text c) cap_from cap.0 cap.1 in
     let same : row.cap ≡ cap.0 = cc cap.2 in
     rw same (cap_from_fits value.0 cap.0 value.2)
 

@@ -5,7 +5,7 @@ use Rattle.std.specs.Ordering.{is_eq}
 use Rattle.roster.specs.Table.{id_cmp, row_of}
 use Rattle.roster.specs.declared.rows.PaperRow.{PaperRow}
 use Rattle.roster.specs.declared.rows.ReviewerRow.{ReviewerRow}
-use Rattle.editions.specs.declared.locks.Lock.{Lock}
+use Rattle.score_spec.specs.declared.union.PairKey.{PairKey}
 use Rattle.editions.specs.Candidates.{do_share}
 use Rattle.editions.specs.Parts.{lock_at}
 use Rattle.editions.specs.Venues.{VenueValue, paper_key, reviewer_key}
@@ -19,7 +19,7 @@ row-id {R} key id (r ∷ rows) row found = on (is_eq (id_cmp (key r) id)) refl (
     on true e rest later found = let here : r ≡ row = cc in sym (ap key here) ∙ equal_same (key r) id e
     on false e rest later found = later found
 
-abbrev pub lock_with : List ℕ → List ℕ → Option Lock
+abbrev pub lock_with : List ℕ → List ℕ → Option PairKey
 lock_with paper reviewer = Some (record { paper = paper; reviewer = reviewer })
 
 pub locked : (venue : VenueValue) (paper reviewer : List ℕ) (mark : ℤ) (p : PaperRow) (r : ReviewerRow)

@@ -6,13 +6,14 @@ use Rattle.roster.specs.declared.rows.PaperRow.{PaperRow}
 use Rattle.score_spec.specs.PairTables.{PairsValue}
 use Rattle.bid_import.specs.declared.fault.ImportFault.{ImportFault}
 use Rattle.bid_import.specs.declared.fault.ImportFault.TheVariants.{Memory, Bad}
+use Rattle.bid_import.specs.Results.{◌>>=◌}
 use Rattle.editions.specs.declared.edit.How.{How}
 use Rattle.editions.specs.declared.edit.How.TheVariants.{Merge, Replace}
-use Rattle.editions.specs.Edits.{Made, Makes, then_make, start_of}
+use Rattle.editions.specs.Edits.{Made, Makes, start_of}
 use Rattle.editions.proofs.Keeping.{HasDemands, HasCaps}
 
 -- a fault of the part is one of the whole
-pub then_fails : {A B : Type 0} (fault : ImportFault) (made : Made A) (more : A → Made B) → Makes {A = A} (Err fault) made → Makes {A = B} (Err fault) (then_make made more)
+pub then_fails : {A B : Type 0} (fault : ImportFault) (made : Made A) (more : A → Made B) → Makes {A = A} (Err fault) made → Makes {A = B} (Err fault) (made >>= more)
 then_fails Memory made more h = tt
 then_fails (Bad row code) made more h = rw h refl
 

@@ -6,7 +6,7 @@ use Rattle.match_rules.specs.Rules.{ArePairs, IsPairBefore, no_pair}
 use Rattle.roster.specs.declared.rows.PaperRow.{PaperRow}
 use Rattle.roster.specs.declared.rows.ReviewerRow.{ReviewerRow}
 use Rattle.editions.specs.Candidates.{is_candidate, pair_of, pairs_of_paper, pairs_from, candidates}
-use Rattle.editions.specs.Found.{IsWithin}
+use Rattle.editions.specs.Found.{IsPair}
 use Rattle.editions.specs.Venues.{VenueValue}
 
 abbrev Each : (RulePair → Type 0) → List RulePair → Type 0
@@ -115,7 +115,7 @@ rise-at (p ∷ q ∷ ps) rise (suc e) d lt =
     rw one (rise-at (q ∷ ps) rise.1 e d (omega arith))
 
 pub are-pairs : (venue : VenueValue) (papers reviewers : ℕ) → papers ≡ length venue.papers → reviewers ≡ length venue.reviewers
-    → length (candidates venue) ≤ 250000 → All IsWithin (candidates venue) → ArePairs papers reviewers (candidates venue)
+    → length (candidates venue) ≤ 250000 → All IsPair (candidates venue) → ArePairs papers reviewers (candidates venue)
 unfolding candidates
 are-pairs venue papers reviewers m n few within =
     let pairs = pairs_from venue 0 venue.papers in

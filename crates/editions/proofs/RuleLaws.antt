@@ -11,7 +11,7 @@ use Rattle.match_rules.specs.Sums.{count_below}
 use Rattle.roster.specs.Table.{id_cmp, Ascend}
 use Rattle.roster.specs.declared.rows.PaperRow.{PaperRow}
 use Rattle.editions.specs.Candidates.{candidates}
-use Rattle.editions.specs.Found.{IsWithin}
+use Rattle.editions.specs.Found.{IsPair}
 use Rattle.editions.specs.Parts.{IsPaper, IsReviewer}
 use Rattle.editions.specs.Venues.{VenueValue, paper_key, reviewer_key}
 use Rattle.editions.specs.VenueRules.{demand_of, demand_sum, rule_paper, rule_reviewer, made_rules}
@@ -87,7 +87,7 @@ pub record AreGoodRows (venue : VenueValue) : Type 0 where
   pub reviewers_ascend : Ascend reviewer_key venue.reviewers
   pub reviewers : All (IsReviewer venue) venue.reviewers
 
-pub are-rules : (venue : VenueValue) → AreGoodRows venue → length (candidates venue) ≤ 250000 → All IsWithin (candidates venue) → AreRules (made_rules venue)
+pub are-rules : (venue : VenueValue) → AreGoodRows venue → length (candidates venue) ≤ 250000 → All IsPair (candidates venue) → AreRules (made_rules venue)
 are-rules venue rows few within = record {
   tickets = refl;
   limit = rows.limit;

@@ -16,13 +16,13 @@ IsRulesAnswer (Err Memory) venue = ⊤
 IsRulesAnswer (Err (Import row code)) venue = ⊥
 IsRulesAnswer (Err (Limit fault)) venue = rules_of venue ≡ Err fault
 
--- the venue that was made, with its rules
-pub record IsEdited (edited : Edited) (made : Made VenueValue) : Type 0 where
+-- the venue that was made or loaded, with its rules
+pub record IsEdited {F : Type 0} (edited : Edited) (made : Result VenueValue F) : Type 0 where
   pub venue : made ≡ Ok edited.venue
   pub rules : rules_of edited.venue ≡ Ok edited.rules
 
--- a venue was made, whose rules pass a limit
-pub record IsLimited (fault : LimitFault) (made : Made VenueValue) : Type 0 where
+-- a venue was made or loaded, whose rules pass a limit
+pub record IsLimited {F : Type 0} (fault : LimitFault) (made : Result VenueValue F) : Type 0 where
   pub venue : VenueValue
   pub made_so : made ≡ Ok venue
   pub limited : rules_of venue ≡ Err fault

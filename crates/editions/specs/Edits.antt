@@ -2,10 +2,13 @@
 use Rattle.std.specs.Prelude.{◌≡◌, ℕ, if◌then◌else◌, List, [], Result, Ok, Err, ℤ, ⊤}
 use Rattle.roster.specs.declared.rows.PaperRow.{PaperRow}
 use Rattle.roster.specs.declared.rows.ReviewerRow.{ReviewerRow}
+use Rattle.roster.specs.declared.table.TheConstants.{MOST_ROWS}
+use Rattle.score_spec.specs.declared.pairs.TheConstants.{MOST_PAIR_ROWS}
 use Rattle.score_spec.specs.Scores.{ScoresValue, without_values}
 use Rattle.score_spec.specs.PairTables.{PairsValue}
 use Rattle.bid_import.specs.Files.{rows_of_file, first_row_of}
 use Rattle.bid_import.specs.Kinds.{paper_row, paper_columns, reviewer_row, reviewer_columns, value_row, value_columns, bid_row, bid_columns, mark_row, mark_columns, cap_row, cap_columns}
+use Rattle.bid_import.specs.Results.{◌>>=◌}
 use Rattle.bid_import.specs.Settings.{SettingsValue, settings_of_file}
 use Rattle.bid_import.specs.declared.fault.Code.{Code}
 use Rattle.bid_import.specs.declared.fault.Code.TheVariants.{UnknownSource}
@@ -22,10 +25,6 @@ use Rattle.editions.specs.Venues.{VenueValue, is_values_source, with_settings, w
 abbrev pub Made : Type 0 → Type 0
 Made A = Result A (ℕ × Code)
 
-abbrev pub then_make : {A B : Type 0} → Made A → (A → Made B) → Made B
-then_make (Ok x) more = more x
-then_make (Err fault) more = Err fault
-
 -- the answer has what was made, or the row at fault and its code; or memory was wanting
 abbrev pub Makes : {A : Type 0} → Result A ImportFault → Made A → Type 0
 Makes (Ok x) made = made ≡ Ok x
@@ -39,11 +38,11 @@ start_of Replace table = []
 
 abbrev pub papers_after : List PaperRow → List ℕ → Made (List PaperRow)
 papers_after table body =
-    then_make (rows_of_file paper_row paper_columns 1500 body) (put_all paper_has_room put_paper (first_row_of paper_columns body) table)
+    rows_of_file paper_row paper_columns MOST_ROWS body >>= put_all paper_has_room put_paper (first_row_of paper_columns body) table
 
 abbrev pub reviewers_after : List ReviewerRow → List ℕ → Made (List ReviewerRow)
 reviewers_after table body =
-    then_make (rows_of_file reviewer_row reviewer_columns 1500 body) (put_all reviewer_has_room put_reviewer (first_row_of reviewer_columns body) table)
+    rows_of_file reviewer_row reviewer_columns MOST_ROWS body >>= put_all reviewer_has_room put_reviewer (first_row_of reviewer_columns body) table
 
 -- the scores that are merged into, or without the table of this source
 abbrev pub values_start : How → List ℕ → ScoresValue → ScoresValue
@@ -52,7 +51,7 @@ values_start Replace source scores = without_values source scores
 
 abbrev pub values_after : List ℕ → ScoresValue → List ℕ → Made ScoresValue
 values_after source scores body =
-    then_make (rows_of_file value_row value_columns 250000 body) (put_all (value_has_room source) (put_value_row source) (first_row_of value_columns body) scores)
+    rows_of_file value_row value_columns MOST_PAIR_ROWS body >>= put_all (value_has_room source) (put_value_row source) (first_row_of value_columns body) scores
 
 abbrev pub bids_start : How → ScoresValue → ScoresValue
 bids_start Merge scores = scores
@@ -60,15 +59,15 @@ bids_start Replace scores = without_bids scores
 
 abbrev pub bids_after : SettingsValue → ScoresValue → List ℕ → Made ScoresValue
 bids_after settings scores body =
-    then_make (rows_of_file (bid_row settings.spec.words) bid_columns 250000 body) (put_all bid_has_room put_bid_row (first_row_of bid_columns body) scores)
+    rows_of_file (bid_row settings.spec.words) bid_columns MOST_PAIR_ROWS body >>= put_all bid_has_room put_bid_row (first_row_of bid_columns body) scores
 
 abbrev pub marks_after : PairsValue ℤ → List ℕ → Made (PairsValue ℤ)
 marks_after table body =
-    then_make (rows_of_file mark_row mark_columns 250000 body) (put_all mark_has_room put_mark_row (first_row_of mark_columns body) table)
+    rows_of_file mark_row mark_columns MOST_PAIR_ROWS body >>= put_all mark_has_room put_mark_row (first_row_of mark_columns body) table
 
 abbrev pub caps_after : PairsValue ℤ → List ℕ → Made (PairsValue ℤ)
 caps_after table body =
-    then_make (rows_of_file cap_row cap_columns 250000 body) (put_all cap_has_room put_cap_row (first_row_of cap_columns body) table)
+    rows_of_file cap_row cap_columns MOST_PAIR_ROWS body >>= put_all cap_has_room put_cap_row (first_row_of cap_columns body) table
 
 abbrev pub settings_after : VenueValue → Result SettingsValue Code → Made VenueValue
 settings_after venue (Ok settings) = Ok (with_settings venue settings)
@@ -78,16 +77,16 @@ settings_after venue (Err code) = Err (0, code)
 unfoldable pub venue_after : VenueValue → TableName → How → List ℕ → Made VenueValue
 venue_after venue Settings how body = settings_after venue (settings_of_file body)
 venue_after venue Papers how body =
-    then_make (papers_after (start_of how venue.papers) body) (λ papers. Ok (record venue { papers = papers }))
+    papers_after (start_of how venue.papers) body >>= (λ papers. Ok (record venue { papers = papers }))
 venue_after venue Reviewers how body =
-    then_make (reviewers_after (start_of how venue.reviewers) body) (λ reviewers. Ok (record venue { reviewers = reviewers }))
+    reviewers_after (start_of how venue.reviewers) body >>= (λ reviewers. Ok (record venue { reviewers = reviewers }))
 venue_after venue (Values source) how body =
     if is_values_source venue.settings source
-    then then_make (values_after source (values_start how source venue.scores) body) (λ scores. Ok (record venue { scores = scores }))
+    then values_after source (values_start how source venue.scores) body >>= (λ scores. Ok (record venue { scores = scores }))
     else Err (0, UnknownSource)
 venue_after venue Bids how body =
-    then_make (bids_after venue.settings (bids_start how venue.scores) body) (λ scores. Ok (record venue { scores = scores }))
+    bids_after venue.settings (bids_start how venue.scores) body >>= (λ scores. Ok (record venue { scores = scores }))
 venue_after venue Marks how body =
-    then_make (marks_after (start_of how venue.marks) body) (λ marks. Ok (record venue { marks = marks }))
+    marks_after (start_of how venue.marks) body >>= (λ marks. Ok (record venue { marks = marks }))
 venue_after venue Caps how body =
-    then_make (caps_after (start_of how venue.caps) body) (λ caps. Ok (record venue { caps = caps }))
+    caps_after (start_of how venue.caps) body >>= (λ caps. Ok (record venue { caps = caps }))

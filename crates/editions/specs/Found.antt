@@ -7,11 +7,12 @@ use Rattle.roster.specs.declared.rows.PaperRow.{PaperRow}
 use Rattle.roster.specs.declared.rows.ReviewerRow.{ReviewerRow}
 use Rattle.score_spec.specs.PaperScores.{PaperScoresValue}
 use Rattle.editions.specs.declared.candidates.Found.{Found}
+use Rattle.editions.specs.declared.candidates.TheConstants.{MOST_PAIRS}
 use Rattle.editions.specs.Candidates.{is_candidate, pair_of}
 use Rattle.editions.specs.Venues.{VenueValue}
 
--- the score and the tickets of a pair are within the limits of rules
-pub record IsWithin (pair : RulePair) : Type 0 where
+-- a pair that rules may have: its score and tickets are within their limits
+pub record IsPair (pair : RulePair) : Type 0 where
   pub low : neg_ℤ (pos most_score) ≤ℤ pair.score
   pub high : pair.score ≤ℤ pos most_score
   pub whole : (pair.floor ≡ 0) ⊎ (pair.floor ≡ MOST_TICKETS)
@@ -21,8 +22,8 @@ pub record IsWithin (pair : RulePair) : Type 0 where
 -- these pairs were found: all are counted, and kept while they aren't too many
 pub record AreFound (found : Found) (pairs : List RulePair) : Type 0 where
   pub counted : found.count ≡ length pairs
-  pub kept : length pairs ≤ 250000 → found.pairs.items ≡ pairs
-  pub within : All IsWithin found.pairs.items
+  pub kept : length pairs ≤ MOST_PAIRS → found.pairs.items ≡ pairs
+  pub within : All IsPair found.pairs.items
 
 -- the pair at these places, where it is a candidate
 abbrev pub candidate_at : VenueValue → ℕ → PaperRow → ℕ → ReviewerRow → List RulePair

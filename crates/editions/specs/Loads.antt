@@ -2,6 +2,7 @@
 use Rattle.std.specs.Prelude.{◌≡◌, ℕ, nat_lt, Bool, true, false, if◌then◌else◌, List, [], ◌∷◌, ◌++◌, length, map, filter, codes, Option, Some, None, Result, Ok, Err, ⊤, ◌≤◌, IsSome, IsErrOf}
 use Rattle.score_spec.specs.Scores.{is_values}
 use Rattle.score_spec.specs.Sources.{SourceValue}
+use Rattle.bid_import.specs.Results.{◌>>=◌}
 use Rattle.bid_import.specs.declared.fault.Code.{Code}
 use Rattle.bid_import.specs.declared.fault.Code.TheVariants.{Missing, TooLong}
 use Rattle.edge_io.specs.FileValues.{FileValue}
@@ -11,12 +12,11 @@ use Rattle.edge_io.specs.declared.folder.TheConstants.{MOST_FILE_BYTES}
 use Rattle.editions.specs.declared.edit.How.TheVariants.{Replace}
 use Rattle.editions.specs.declared.edit.TableName.{TableName}
 use Rattle.editions.specs.declared.edit.TableName.TheVariants.{Settings, Papers, Reviewers, Values, Bids, Marks, Caps}
-use Rattle.editions.specs.declared.fault.LimitFault.{LimitFault}
 use Rattle.editions.specs.declared.fault.LoadFault.{LoadFault}
 use Rattle.editions.specs.declared.fault.LoadFault.TheVariants.{Memory, Folder, Bad, Limit}
 use Rattle.editions.specs.declared.venue.Edited.{Edited}
+use Rattle.editions.specs.Answers.{IsEdited, IsLimited}
 use Rattle.editions.specs.Edits.{Made, venue_after}
-use Rattle.editions.specs.VenueRules.{rules_of}
 use Rattle.editions.specs.Venues.{VenueValue, empty_venue}
 
 -- the file of a table
@@ -56,14 +56,10 @@ abbrev pub after_file : VenueValue → TableName → Option (List ℕ) → Loade
 after_file venue table None = if has_to_be_there table then Err (file_of table, 0, Missing) else Ok venue
 after_file venue table (Some bytes) = after_bytes venue table bytes
 
-abbrev pub then_load : Loaded → (VenueValue → Loaded) → Loaded
-then_load (Ok venue) more = more venue
-then_load (Err fault) more = Err fault
-
 -- the files of these tables, one after the other
 abbrev pub after_files : List FileValue → List TableName → VenueValue → Loaded
 after_files files [] venue = Ok venue
-after_files files (table ∷ tables) venue = then_load (after_file venue table (file_named files (file_of table))) (after_files files tables)
+after_files files (table ∷ tables) venue = after_file venue table (file_named files (file_of table)) >>= after_files files tables
 
 abbrev pub values_table : SourceValue → TableName
 values_table source = Values source.name
@@ -74,7 +70,7 @@ tables_of venue = Papers ∷ Reviewers ∷ (map values_table (filter (λ source.
 
 -- the venue of a folder with these files
 unfoldable pub venue_in : List FileValue → Loaded
-venue_in files = then_load (after_files files (Settings ∷ []) empty_venue) (λ venue. after_files files (tables_of venue) venue)
+venue_in files = after_files files (Settings ∷ []) empty_venue >>= (λ venue. after_files files (tables_of venue) venue)
 
 -- the answer has the venue, or the file at fault, with the row and the code; or the folder failed or memory was wanting
 abbrev pub Loads : Result VenueValue LoadFault → Loaded → Type 0
@@ -95,21 +91,10 @@ pub record LoadFails {T : Type 0} (before now : ℕ) (result : Result T LoadFaul
   pub later : before ≤ now
   pub failed : IsErrOf result Folder → Rose before now
 
--- the venue that was loaded, with its rules
-pub record IsLoaded (edited : Edited) (loaded : Loaded) : Type 0 where
-  pub venue : loaded ≡ Ok edited.venue
-  pub rules : rules_of edited.venue ≡ Ok edited.rules
-
--- a venue was loaded, whose rules pass a limit
-pub record IsTooMuch (fault : LimitFault) (loaded : Loaded) : Type 0 where
-  pub venue : VenueValue
-  pub loaded_so : loaded ≡ Ok venue
-  pub limited : rules_of venue ≡ Err fault
-
 -- the venue with its rules, the first fault in the order of reading, or the limit; or the folder failed or memory was wanting
 abbrev pub IsLoadAnswer : Result Edited LoadFault → Loaded → Type 0
-IsLoadAnswer (Ok edited) loaded = IsLoaded edited loaded
+IsLoadAnswer (Ok edited) loaded = IsEdited edited loaded
 IsLoadAnswer (Err Memory) loaded = ⊤
 IsLoadAnswer (Err Folder) loaded = ⊤
 IsLoadAnswer (Err (Bad file row code)) loaded = loaded ≡ Err (file, row, code)
-IsLoadAnswer (Err (Limit fault)) loaded = IsTooMuch fault loaded
+IsLoadAnswer (Err (Limit fault)) loaded = IsLimited fault loaded

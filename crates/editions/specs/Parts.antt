@@ -2,20 +2,21 @@
 use Rattle.std.specs.Prelude.{◌≡◌, ℕ, ◌≤◌, true, if◌then◌else◌, List, Option, Some, None, IfSome, Result, Ok, Err, ℤ, ⊤}
 use Rattle.match_rules.specs.Id.{is_id, is_institution}
 use Rattle.match_rules.specs.Rules.{RulesValue}
+use Rattle.roster.specs.declared.load.TheConstants.{MOST_LOAD}
 use Rattle.roster.specs.declared.rows.PaperRow.{PaperRow}
 use Rattle.roster.specs.declared.rows.ReviewerRow.{ReviewerRow}
-use Rattle.editions.specs.declared.locks.Lock.{Lock}
+use Rattle.score_spec.specs.declared.union.PairKey.{PairKey}
 use Rattle.editions.specs.declared.fault.EditFault.{EditFault}
 use Rattle.editions.specs.declared.fault.EditFault.TheVariants.{Memory, Import, Limit}
 use Rattle.editions.specs.declared.fault.LimitFault.{LimitFault}
 use Rattle.editions.specs.Venues.{VenueValue}
 use Rattle.editions.specs.VenueRules.{demand_of, load_of, is_forbidden_lock}
 
-abbrev pub lock_of : List ℕ × List ℕ → Lock
+abbrev pub lock_of : List ℕ × List ℕ → PairKey
 lock_of pair = record { paper = pair.0; reviewer = pair.1 }
 
 -- the paper and the reviewer, where the mark locks them though they share an institution
-abbrev pub lock_at : VenueValue → List ℕ → List ℕ → ℤ → Option Lock
+abbrev pub lock_at : VenueValue → List ℕ → List ℕ → ℤ → Option PairKey
 lock_at venue paper reviewer mark = if is_forbidden_lock venue paper reviewer mark then Some (record { paper = paper; reviewer = reviewer }) else None
 
 -- a row that rules may have as a paper
@@ -28,7 +29,7 @@ pub record IsReviewer (venue : VenueValue) (reviewer : ReviewerRow) : Type 0 whe
   pub id : is_id reviewer.id ≡ true
   pub institution : IfSome reviewer.institution (λ name. is_institution name ≡ true)
   pub rises : (load_of venue reviewer).least ≤ (load_of venue reviewer).greatest
-  pub few : (load_of venue reviewer).greatest ≤ 1500
+  pub few : (load_of venue reviewer).greatest ≤ MOST_LOAD
 
 -- these rules, or the limit that they pass; or memory was wanting
 abbrev pub AnswersRules : Result RulesValue EditFault → Result RulesValue LimitFault → Type 0

@@ -1,9 +1,11 @@
 -- Rows put into a table one after the other, up to the first that finds it full.
-use Rattle.std.specs.Prelude.{◌≡◌, ℕ, ◌+◌, Bool, true, false, ⊤, ◌||◌, nat_le, is_some, if◌then◌else◌, List, [], ◌∷◌, length, Result, Ok, Err, ℤ}
+use Rattle.std.specs.Prelude.{◌≡◌, ℕ, ◌+◌, Bool, true, false, ⊤, ◌||◌, nat_lt, is_some, if◌then◌else◌, List, [], ◌∷◌, length, Result, Ok, Err, ℤ}
 use Rattle.roster.specs.Table.{row_of, put_row}
+use Rattle.roster.specs.declared.table.TheConstants.{MOST_ROWS}
 use Rattle.roster.specs.declared.rows.PaperRow.{PaperRow}
 use Rattle.roster.specs.declared.rows.ReviewerRow.{ReviewerRow}
 use Rattle.score_spec.specs.PairTables.{PairsValue, value_of_pair, put_pair, pair_count}
+use Rattle.score_spec.specs.declared.pairs.TheConstants.{MOST_PAIR_ROWS}
 use Rattle.score_spec.specs.Scores.{ScoresValue, table_of, with_value, with_bid}
 use Rattle.bid_import.specs.declared.fault.Code.{Code}
 use Rattle.bid_import.specs.declared.fault.Code.TheVariants.{TooMany}
@@ -16,6 +18,8 @@ use Rattle.bid_import.specs.declared.rows.MarkRow.{MarkRow}
 use Rattle.bid_import.specs.declared.rows.CapRow.{CapRow}
 use Rattle.editions.specs.declared.puts.PutFault.{PutFault}
 use Rattle.editions.specs.declared.puts.PutFault.TheVariants.{Full, Memory}
+use Rattle.score_spec.specs.declared.pairs.ScoresFault.{ScoresFault}
+use Rattle.score_spec.specs.declared.pairs.ScoresFault.TheVariants as scores
 use Rattle.editions.specs.Venues.{paper_key, reviewer_key}
 
 -- the table after the rows, the first of which has this number, or the row that passes its limit
@@ -35,9 +39,14 @@ abbrev pub at_row : ℕ → PutFault → ImportFault
 at_row number Full = Bad number TooMany
 at_row number Memory = import.Memory
 
+-- a put of a pair that was refused
+abbrev pub put_fault : ScoresFault → PutFault
+put_fault scores.TooMany = Full
+put_fault scores.Memory = Memory
+
 -- a row of a known key has room, and a new one where fewer than 1,500 are there
 abbrev pub row_has_room : {R : Type 0} → (R → List ℕ) → List ℕ → List R → Bool
-row_has_room key id table = is_some (row_of key id table) || nat_le (length table + 1) 1500
+row_has_room key id table = is_some (row_of key id table) || nat_lt (length table) MOST_ROWS
 
 abbrev pub paper_has_room : PaperRow → List PaperRow → Bool
 paper_has_room row table = row_has_room paper_key row.id table
@@ -53,7 +62,7 @@ put_reviewer row table = put_row reviewer_key row table
 
 -- a known pair has room, and a new one where fewer than 250,000 are there
 abbrev pub pair_has_room : {V : Type 0} → List ℕ → List ℕ → PairsValue V → Bool
-pair_has_room paper reviewer table = is_some (value_of_pair table paper reviewer) || nat_le (pair_count table + 1) 250000
+pair_has_room paper reviewer table = is_some (value_of_pair table paper reviewer) || nat_lt (pair_count table) MOST_PAIR_ROWS
 
 -- into the table of a source
 abbrev pub value_has_room : List ℕ → ValueRow → ScoresValue → Bool

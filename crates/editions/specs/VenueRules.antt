@@ -12,6 +12,8 @@ use Rattle.roster.specs.declared.rows.ReviewerRow.{ReviewerRow}
 use Rattle.score_spec.specs.PairTables.{PairsValue, Entry}
 use Rattle.editions.specs.declared.fault.LimitFault.{LimitFault}
 use Rattle.editions.specs.declared.fault.LimitFault.TheVariants.{TooMuchDemand, LockForbidden, TooManyPairs}
+use Rattle.editions.specs.declared.candidates.TheConstants.{MOST_PAIRS}
+use Rattle.editions.specs.declared.rules.TheConstants.{MOST_DEMAND_IN_ALL}
 use Rattle.editions.specs.Venues.{VenueValue, paper_key, reviewer_key}
 use Rattle.editions.specs.Candidates.{do_share, candidates}
 
@@ -68,7 +70,7 @@ made_rules venue = rules_value venue.settings.limit (map (rule_paper venue) venu
 
 -- the rules, where the pairs aren't too many
 abbrev pub if_few_pairs : VenueValue → Result RulesValue LimitFault
-if_few_pairs venue = if nat_lt 250000 (length (candidates venue)) then Err (TooManyPairs (length (candidates venue))) else Ok (made_rules venue)
+if_few_pairs venue = if nat_lt MOST_PAIRS (length (candidates venue)) then Err (TooManyPairs (length (candidates venue))) else Ok (made_rules venue)
 
 abbrev pub if_no_lock : VenueValue → Option (List ℕ × List ℕ) → Result RulesValue LimitFault
 if_no_lock venue None = if_few_pairs venue
@@ -77,4 +79,4 @@ if_no_lock venue (Some pair) = Err (LockForbidden pair.0 pair.1)
 -- the rules of a venue: too much demand is refused first, then a forbidden lock, then too many pairs
 unfoldable pub rules_of : VenueValue → Result RulesValue LimitFault
 rules_of venue =
-    if nat_lt 4500 (demand_sum venue venue.papers) then Err (TooMuchDemand (demand_sum venue venue.papers)) else if_no_lock venue (forbidden_in venue venue.marks)
+    if nat_lt MOST_DEMAND_IN_ALL (demand_sum venue venue.papers) then Err (TooMuchDemand (demand_sum venue venue.papers)) else if_no_lock venue (forbidden_in venue venue.marks)

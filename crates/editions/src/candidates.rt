@@ -3,7 +3,7 @@
 ghost use Rattle.std.specs.Prelude.{◌≡◌, ◌<◌, ◌≤◌, ◌+◌, ◌*◌, ◌^◌, ◌||◌, ◌++◌, ◌∷◌, [], List, pos, neg_ℤ, IfOk, IsTrue, OnOk};
 ghost use Rattle.std.specs.Ordering.{int_eq};
 ghost use Rattle.editions.specs.Candidates.{do_share, is_listed, pair_of, pairs_of_paper, candidates, tickets_of};
-ghost use Rattle.editions.specs.Found.{AreFound, IsWithin, candidate_at, scores_of};
+ghost use Rattle.editions.specs.Found.{AreFound, IsPair, candidate_at, scores_of};
 ghost use Rattle.editions.specs.Listed.{AreListed};
 ghost use Rattle.editions.specs.Venues.{IsCap, KeepsLimits, cap_of, mark_of};
 ghost use Rattle.match_rules.specs.declared.rules.RulePair.{RulePair};
@@ -12,10 +12,11 @@ use crate::conflict::do_share;
 use crate::listed::listed_places;
 use crate::tables::Tables;
 use match_rules::{MOST_TICKETS, RulePair};
-use roster::{PaperRow, ReviewerRow};
+use roster::{MOST_ROWS, PaperRow, ReviewerRow};
 use score_spec::{PaperScores, Value};
 use std::alloc::{AllocError, Global};
 
+/// The most candidate pairs of rules.
 pub(crate) const MOST_PAIRS: u64 = 250_000;
 
 /// How many pairs were found, and the first 250,000 of them.
@@ -54,7 +55,7 @@ fn cap_of(tables: &Tables, paper: &PaperRow, reviewer: &ReviewerRow) -> Value
 fn tickets_of(tables: &Tables, paper: &PaperRow, reviewer: &ReviewerRow) -> u32
     requires { KeepsLimits tables.now }
     ensures same { result ≡ tickets_of (cap_of tables.now paper.now.id reviewer.now.id) }
-    ensures within { result ≤ 10000 }
+    ensures within { result ≤ MOST_TICKETS }
 {
     let cap = cap_of(tables, paper, reviewer);
     cap.tenthousandths() as u32
@@ -85,7 +86,7 @@ fn pair_of(
     requires scores { scores.now ≡ scores_of tables.now paper.now.row.now }
     requires limits { KeepsLimits tables.now }
     ensures same { result ≡ pair_of tables.now paper.now.place paper.now.row.now reviewer.now.place reviewer.now.row.now }
-    ensures within { IsWithin result }
+    ensures within { IsPair result }
 {
     let score = scores.score(reviewer.row.id.text());
     if mark == 1 {
@@ -163,8 +164,8 @@ fn add_paper(
     requires listed { AreListed tables.now paper.now.row.now listed.now }
     requires scores { scores.now ≡ scores_of tables.now paper.now.row.now }
     requires limits { KeepsLimits tables.now }
-    requires room { found.old.count ≤ 1500 * 1500 }
-    ensures count { OnOk result (found.new.count ≤ found.old.count + 1500) }
+    requires room { found.old.count ≤ MOST_ROWS * MOST_ROWS }
+    ensures count { OnOk result (found.new.count ≤ found.old.count + MOST_ROWS) }
     ensures found { OnOk result ((pairs : List RulePair) → AreFound found.old pairs → AreFound found.new (pairs ++ pairs_of_paper tables.now paper.now.place paper.now.row.now 0 tables.now.reviewers)) }
 {
     let reviewers = tables.reviewers.rows();

@@ -6,16 +6,8 @@ ghost use Rattle.editions.specs.VenueRules.{forbidden_in, forbidden_in_row};
 
 use crate::conflict::do_share;
 use crate::tables::Tables;
-use match_rules::{PaperId, ReviewerId};
-use score_spec::ById;
+use score_spec::{ById, PairKey};
 use std::alloc::{AllocError, Global};
-
-/// A paper and a reviewer.
-#[derive(Drop)]
-pub(crate) struct Lock {
-    pub paper: PaperId,
-    pub reviewer: ReviewerId,
-}
 
 // The pair, where the mark locks it though it shares an institution.
 fn lock_at(
@@ -24,7 +16,7 @@ fn lock_at(
     paper: &str,
     reviewer: &str,
     mark: &i32,
-) -> Result<Option<Lock>, AllocError>
+) -> Result<Option<PairKey>, AllocError>
     ensures { IfOk result (λ lock. lock ≡ lock_at tables.now paper.now reviewer.now mark.now) }
 {
     if *mark != 1 {
@@ -41,7 +33,7 @@ fn lock_at(
     }
     let paper = paper.id.copy(alloc)?;
     let reviewer = reviewer.id.copy(alloc)?;
-    Ok(Some(Lock { paper, reviewer }))
+    Ok(Some(PairKey { paper, reviewer }))
 }
 
 fn lock_in_row(
@@ -49,7 +41,7 @@ fn lock_in_row(
     tables: &Tables,
     paper: &str,
     marks: &ById<i32>,
-) -> Result<Option<Lock>, AllocError>
+) -> Result<Option<PairKey>, AllocError>
     ensures { IfOk result (λ lock. lock ≡ option_map lock_of (forbidden_in_row tables.now paper.now marks.now)) }
 {
     for (reviewer, mark) in marks.iter() {
@@ -61,7 +53,7 @@ fn lock_in_row(
 }
 
 /// The first pair, in the order of the marks, that is locked though it shares an institution.
-pub(crate) fn forbidden_lock(alloc: Global, tables: &Tables) -> Result<Option<Lock>, AllocError>
+pub(crate) fn forbidden_lock(alloc: Global, tables: &Tables) -> Result<Option<PairKey>, AllocError>
     ensures { IfOk result (λ lock. lock ≡ option_map lock_of (forbidden_in tables.now tables.now.marks)) }
 {
     for (paper, marks) in tables.marks.papers().iter() {

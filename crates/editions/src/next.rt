@@ -1,13 +1,10 @@
 // The venue after an edit: one of its tables is put anew, and all else stays.
 
-ghost use Rattle.std.specs.Prelude.{◌≡◌, ◌&&◌};
+ghost use Rattle.std.specs.Prelude.{◌≡◌};
 ghost use Rattle.editions.specs.Answers.{IsEditAnswer};
 ghost use Rattle.editions.specs.Edits.{Makes, start_of, values_start, bids_start, settings_after, venue_after};
-ghost use Rattle.std.specs.Ordering.{is_eq};
 ghost use Rattle.bid_import.specs.Settings.{settings_of_file};
 ghost use Rattle.editions.specs.Venues.{with_settings};
-ghost use Rattle.roster.specs.Table.{id_cmp};
-ghost use Rattle.score_spec.specs.Scores.{has_values, is_values};
 ghost use Rattle.editions.specs.declared.edit.TableName.TheVariants as table;
 
 use crate::edit::{Edit, How, TableName};
@@ -18,7 +15,7 @@ use crate::puts::{
 use crate::venue::{Edited, Venue};
 use bid_import::{Code, ImportFault, Settings, read_settings};
 use roster::{Row, Table};
-use score_spec::{Kind, PairTable, Scores, SourceSpec, Text};
+use score_spec::{PairTable, Scores, Text};
 use std::alloc::Global;
 
 fn start_of_rows<R: Row>(alloc: Global, how: How, rows: Table<R>) -> Table<R>
@@ -59,19 +56,6 @@ fn start_of_bids(how: How, mut scores: Scores) -> Scores
     scores
 }
 
-// Whether the source is one of values and has this name.
-fn is_values_of(source: &SourceSpec, name: &str) -> bool
-    ensures { result ≡ is_values source.now.kind && is_eq (id_cmp source.now.name name.now) }
-{
-    source.kind() == Kind::Values && source.name().cmp(name).is_eq()
-}
-
-fn has_values(sources: &[SourceSpec], name: &str) -> bool
-    ensures { result ≡ has_values sources.now name.now }
-{
-    sources.iter().any(|source| is_values_of(source, name))
-}
-
 fn after_papers(alloc: Global, venue: Venue, how: How, body: &[u8]) -> Result<Venue, ImportFault>
     ensures { Makes result (venue_after venue table.Papers how body.now) }
 {
@@ -101,7 +85,7 @@ fn after_values(
 ) -> Result<Venue, ImportFault>
     ensures { Makes result (venue_after venue (table.Values source.now) how body.now) }
 {
-    if !has_values(venue.settings.spec().sources.as_slice(), source.as_str()) {
+    if !venue.settings.spec().sources.has_values(source.as_str()) {
         return Err(ImportFault::Bad {
             row: 0,
             code: Code::UnknownSource,

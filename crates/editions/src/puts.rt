@@ -6,18 +6,17 @@ ghost use Rattle.bid_import.specs.Kinds.{columns_of};
 ghost use Rattle.roster.specs.declared.rows.PaperRow.{PaperRow};
 ghost use Rattle.roster.specs.declared.rows.ReviewerRow.{ReviewerRow};
 ghost use Rattle.editions.specs.Edits.{Makes, papers_after, reviewers_after, values_after, bids_after, marks_after, caps_after};
-ghost use Rattle.editions.specs.Puts.{Puts, at_row, put_all, row_has_room, pair_has_room};
+ghost use Rattle.editions.specs.Puts.{Puts, at_row, put_all, put_fault, row_has_room, pair_has_room};
 ghost use Rattle.roster.specs.Table.{put_row};
 ghost use Rattle.score_spec.specs.PairTables.{put_pair};
-ghost use Rattle.score_spec.specs.Scores.{table_of};
 
 use bid_import::{
     BidRow, CapRow, Code, FileKind, ImportFault, MarkRow, Settings, ValueRow, first_row, read_bids,
     read_caps, read_marks, read_papers, read_reviewers, read_values,
 };
 use match_rules::{PaperId, ReviewerId};
-use roster::{PaperRow, Papers, ReviewerRow, Reviewers, Row, Table};
-use score_spec::{PairTable, Scores, Value};
+use roster::{PaperRow, Papers, ReviewerRow, Reviewers, RosterFault, Row, Table};
+use score_spec::{MOST_PAIR_ROWS, PairTable, Scores, ScoresFault, Value};
 use std::alloc::Global;
 
 /// Why a row was not put.
@@ -86,7 +85,7 @@ fn put_body<K: Target>(
     rows: Vec<K::Row>,
     body: &[u8],
 ) -> Result<K::Table, ImportFault>
-    requires { length rows.items ≤ 250000 }
+    requires { length rows.items ≤ MOST_PAIR_ROWS }
     ensures { Makes result (put_all (K.has_room kind.now) (K.with_row kind.now) (first_row_of (columns_of file) body.now) table rows.items) }
 {
     match first_row(alloc, file, body) {
@@ -95,22 +94,13 @@ fn put_body<K: Target>(
     }
 }
 
-// Whether a table of papers or reviewers has room for a row of this id.
-fn has_row_room<R: Row>(table: &Table<R>, id: &str) -> bool
-    ensures { result ≡ row_has_room R.key id.now table.now }
-{
-    table.len() < 1500 || table.get(id).is_some()
-}
-
 fn put_roster_row<R: Row>(table: &mut Table<R>, row: R) -> Result<(), PutFault>
     ensures { Puts result (row_has_room R.key (R.key row) table.old) (put_row R.key row table.old) table.new }
 {
-    if !has_row_room(table, row.key()) {
-        return Err(PutFault::Full);
-    }
     match table.upsert(row) {
         Ok(()) => Ok(()),
-        Err(_) => Err(PutFault::Memory),
+        Err(RosterFault::TooMany { .. }) => Err(PutFault::Full),
+        Err(RosterFault::Memory) => Err(PutFault::Memory),
     }
 }
 
@@ -150,11 +140,13 @@ impl Target for ReviewerTarget {
     }
 }
 
-// Whether a table of pairs has room for a row of this pair.
-fn has_pair_room<V>(table: &PairTable<V>, paper: &str, reviewer: &str) -> bool
-    ensures { result ≡ pair_has_room paper.now reviewer.now table.now }
+fn put_fault(fault: ScoresFault) -> PutFault
+    ensures { result ≡ put_fault fault }
 {
-    table.len() < 250_000 || table.get(paper, reviewer).is_some()
+    match fault {
+        ScoresFault::TooMany => PutFault::Full,
+        ScoresFault::Memory => PutFault::Memory,
+    }
 }
 
 // Puts a value for a pair.
@@ -166,22 +158,9 @@ fn put_pair_row<V: Drop>(
 ) -> Result<(), PutFault>
     ensures { Puts result (pair_has_room paper reviewer table.old) (put_pair paper reviewer value table.old) table.new }
 {
-    if !has_pair_room(table, paper.text(), reviewer.text()) {
-        return Err(PutFault::Full);
-    }
     match table.put(paper, reviewer, value) {
         Ok(()) => Ok(()),
-        Err(_) => Err(PutFault::Memory),
-    }
-}
-
-// Whether the table of a source has room for a row of this pair.
-fn has_value_room(scores: &Scores, source: &str, paper: &str, reviewer: &str) -> bool
-    ensures { result ≡ pair_has_room paper.now reviewer.now (table_of scores.now source.now) }
-{
-    match scores.values(source) {
-        Some(table) => has_pair_room(table, paper, reviewer),
-        None => true,
+        Err(fault) => Err(put_fault(fault)),
     }
 }
 
@@ -202,12 +181,9 @@ impl<'a> Target for ValueTarget<'a> {
     ghost with_row = { λ kind. put_value_row kind.source.now };
 
     fn put(&self, table: &mut Scores, row: ValueRow) -> Result<(), PutFault> {
-        if !has_value_room(table, self.source, row.paper.text(), row.reviewer.text()) {
-            return Err(PutFault::Full);
-        }
         match table.put_value(self.source, row.paper, row.reviewer, row.value) {
             Ok(()) => Ok(()),
-            Err(_) => Err(PutFault::Memory),
+            Err(fault) => Err(put_fault(fault)),
         }
     }
 }
@@ -226,12 +202,9 @@ impl Target for BidTarget {
     ghost with_row = { λ _. put_bid_row };
 
     fn put(&self, table: &mut Scores, row: BidRow) -> Result<(), PutFault> {
-        if !has_pair_room(table.bids(), row.paper.text(), row.reviewer.text()) {
-            return Err(PutFault::Full);
-        }
         match table.put_bid(row.paper, row.reviewer, row.word) {
             Ok(()) => Ok(()),
-            Err(_) => Err(PutFault::Memory),
+            Err(fault) => Err(put_fault(fault)),
         }
     }
 }
@@ -276,10 +249,7 @@ impl Target for CapTarget {
 pub(crate) fn papers_after(alloc: Global, table: Papers, body: &[u8]) -> Result<Papers, ImportFault>
     ensures { Makes result (papers_after table body.now) }
 {
-    let rows = match read_papers(alloc, body) {
-        Ok(rows) => rows,
-        Err(fault) => return Err(fault),
-    };
+    let rows = read_papers(alloc, body)?;
     put_body(alloc, &PaperTarget, FileKind::Papers, table, rows, body)
 }
 
@@ -291,10 +261,7 @@ pub(crate) fn reviewers_after(
 ) -> Result<Reviewers, ImportFault>
     ensures { Makes result (reviewers_after table body.now) }
 {
-    let rows = match read_reviewers(alloc, body) {
-        Ok(rows) => rows,
-        Err(fault) => return Err(fault),
-    };
+    let rows = read_reviewers(alloc, body)?;
     put_body(
         alloc,
         &ReviewerTarget,
@@ -314,10 +281,7 @@ pub(crate) fn values_after(
 ) -> Result<Scores, ImportFault>
     ensures { Makes result (values_after source.now scores body.now) }
 {
-    let rows = match read_values(alloc, body) {
-        Ok(rows) => rows,
-        Err(fault) => return Err(fault),
-    };
+    let rows = read_values(alloc, body)?;
     put_body(
         alloc,
         &ValueTarget { source },
@@ -337,10 +301,7 @@ pub(crate) fn bids_after(
 ) -> Result<Scores, ImportFault>
     ensures { Makes result (bids_after settings.now scores body.now) }
 {
-    let rows = match read_bids(alloc, body, settings.spec()) {
-        Ok(rows) => rows,
-        Err(fault) => return Err(fault),
-    };
+    let rows = read_bids(alloc, body, settings.spec())?;
     put_body(alloc, &BidTarget, FileKind::Bids, scores, rows, body)
 }
 
@@ -352,10 +313,7 @@ pub(crate) fn marks_after(
 ) -> Result<PairTable<i32>, ImportFault>
     ensures { Makes result (marks_after table body.now) }
 {
-    let rows = match read_marks(alloc, body) {
-        Ok(rows) => rows,
-        Err(fault) => return Err(fault),
-    };
+    let rows = read_marks(alloc, body)?;
     put_body(alloc, &MarkTarget, FileKind::Marks, table, rows, body)
 }
 
@@ -367,9 +325,6 @@ pub(crate) fn caps_after(
 ) -> Result<PairTable<Value>, ImportFault>
     ensures { Makes result (caps_after table body.now) }
 {
-    let rows = match read_caps(alloc, body) {
-        Ok(rows) => rows,
-        Err(fault) => return Err(fault),
-    };
+    let rows = read_caps(alloc, body)?;
     put_body(alloc, &CapTarget, FileKind::Caps, table, rows, body)
 }

@@ -3,22 +3,24 @@
 ghost use Rattle.std.specs.Prelude.{◌≡◌, ◌≤◌, true, length, map, None, Ok, IfOk, IfSome, OnOk, All};
 ghost use Rattle.editions.specs.Answers.{IsRulesAnswer};
 ghost use Rattle.editions.specs.Candidates.{candidates};
-ghost use Rattle.editions.specs.Found.{IsWithin};
+ghost use Rattle.editions.specs.Found.{IsPair};
 ghost use Rattle.editions.specs.Parts.{AnswersRules, IsPaper, IsReviewer};
 ghost use Rattle.editions.specs.Venues.{IsDemand, KeepsLimits, paper_key, reviewer_key};
 ghost use Rattle.editions.specs.VenueRules.{demand_of, demand_sum, forbidden_in, if_few_pairs, if_no_lock, load_of, made_rules, rule_paper, rule_reviewer};
-ghost use Rattle.match_rules.specs.Id.{is_institution};
 ghost use Rattle.roster.specs.Table.{Ascend};
 
 use crate::candidates::{MOST_PAIRS, candidates};
 use crate::fault::{EditFault, LimitFault};
-use crate::locks::{Lock, forbidden_lock};
+use crate::locks::forbidden_lock;
 use crate::tables::Tables;
 use bid_import::Settings;
-use match_rules::{Institution, RulePair, RulePaper, RuleReviewer, Rules};
-use roster::{Load, PaperRow, Papers, ReviewerRow, Reviewers};
-use score_spec::{PairTable, Scores, Value};
+use match_rules::{RulePair, RulePaper, RuleReviewer, Rules};
+use roster::{Load, MOST_ROWS, PaperRow, Papers, ReviewerRow, Reviewers};
+use score_spec::{PairKey, PairTable, Scores, Value};
 use std::alloc::{AllocError, Global};
+
+// The most reviewers that the papers may need in all.
+const MOST_DEMAND_IN_ALL: u64 = 4_500;
 
 fn demand_of(tables: &Tables, paper: &PaperRow) -> u32
     requires { IsDemand paper.now.demand }
@@ -69,29 +71,13 @@ fn rule_papers(alloc: Global, tables: &Tables) -> Result<Vec<RulePaper>, AllocEr
     ensures same { IfOk result (λ made. made.items ≡ map (rule_paper tables.now) tables.now.papers) }
     ensures good { OnOk result (All (IsPaper tables.now) tables.now.papers) }
     ensures order { Ascend paper_key tables.now.papers }
-    ensures few { length tables.now.papers ≤ 1500 }
+    ensures few { length tables.now.papers ≤ MOST_ROWS }
 {
     let mut papers = Vec::new(alloc);
     for paper in tables.papers.rows() {
         papers.push(rule_paper(alloc, tables, paper)?)?;
     }
     Ok(papers)
-}
-
-fn institution_of(
-    alloc: Global,
-    institution: &Option<Institution>,
-) -> Result<Option<Institution>, AllocError>
-    ensures same { IfOk result (λ copy. copy ≡ institution.now) }
-    ensures good { OnOk result (IfSome institution.now (λ name. is_institution name ≡ true)) }
-{
-    match institution {
-        Some(name) => {
-            let copy = name.copy(alloc)?;
-            Ok(Some(copy))
-        }
-        None => Ok(None),
-    }
 }
 
 fn rule_reviewer(
@@ -103,7 +89,7 @@ fn rule_reviewer(
     ensures good { OnOk result (IsReviewer tables.now reviewer.now) }
 {
     let id = reviewer.id.copy(alloc)?;
-    let institution = institution_of(alloc, &reviewer.institution)?;
+    let institution = reviewer.copy_institution(alloc)?;
     let load = load_of(tables, reviewer);
     Ok(RuleReviewer {
         id,
@@ -117,7 +103,7 @@ fn rule_reviewers(alloc: Global, tables: &Tables) -> Result<Vec<RuleReviewer>, A
     ensures same { IfOk result (λ made. made.items ≡ map (rule_reviewer tables.now) tables.now.reviewers) }
     ensures good { OnOk result (All (IsReviewer tables.now) tables.now.reviewers) }
     ensures order { Ascend reviewer_key tables.now.reviewers }
-    ensures few { length tables.now.reviewers ≤ 1500 }
+    ensures few { length tables.now.reviewers ≤ MOST_ROWS }
 {
     let mut reviewers = Vec::new(alloc);
     for reviewer in tables.reviewers.rows() {
@@ -129,10 +115,10 @@ fn rule_reviewers(alloc: Global, tables: &Tables) -> Result<Vec<RuleReviewer>, A
 // The rules of a venue that passes no limit.
 fn made_rules(alloc: Global, tables: &Tables, pairs: Vec<RulePair>) -> Result<Rules, AllocError>
     requires limits { KeepsLimits tables.now }
-    requires demand { demand_sum tables.now tables.now.papers ≤ 4500 }
+    requires demand { demand_sum tables.now tables.now.papers ≤ MOST_DEMAND_IN_ALL }
     requires pairs { pairs.items ≡ candidates tables.now }
-    requires few { length pairs.items ≤ 250000 }
-    requires within { All IsWithin pairs.items }
+    requires few { length pairs.items ≤ MOST_PAIRS }
+    requires within { All IsPair pairs.items }
     ensures { IfOk result (λ rules. rules ≡ made_rules tables.now) }
 {
     let limit = tables.settings.limit();
@@ -144,7 +130,7 @@ fn made_rules(alloc: Global, tables: &Tables, pairs: Vec<RulePair>) -> Result<Ru
 // The rules, where the pairs aren't too many.
 fn few_pairs(alloc: Global, tables: &Tables) -> Result<Rules, EditFault>
     requires limits { KeepsLimits tables.now }
-    requires demand { demand_sum tables.now tables.now.papers ≤ 4500 }
+    requires demand { demand_sum tables.now tables.now.papers ≤ MOST_DEMAND_IN_ALL }
     ensures { AnswersRules result (if_few_pairs tables.now) }
 {
     let Ok(found) = candidates(alloc, tables) else {
@@ -160,17 +146,15 @@ fn few_pairs(alloc: Global, tables: &Tables) -> Result<Rules, EditFault>
     }
 }
 
-const MOST_DEMAND: u64 = 4_500;
-
 // The rules, where no lock is forbidden.
 fn unlocked(alloc: Global, tables: &Tables) -> Result<Rules, EditFault>
     requires limits { KeepsLimits tables.now }
-    requires demand { demand_sum tables.now tables.now.papers ≤ 4500 }
+    requires demand { demand_sum tables.now tables.now.papers ≤ MOST_DEMAND_IN_ALL }
     ensures { AnswersRules result (if_no_lock tables.now (forbidden_in tables.now tables.now.marks)) }
 {
     match forbidden_lock(alloc, tables) {
         Ok(None) => few_pairs(alloc, tables),
-        Ok(Some(Lock { paper, reviewer })) => {
+        Ok(Some(PairKey { paper, reviewer })) => {
             Err(EditFault::Limit(LimitFault::LockForbidden { paper, reviewer }))
         }
         Err(_) => Err(EditFault::Memory),
@@ -182,7 +166,7 @@ fn rules_of(alloc: Global, tables: &Tables) -> Result<Rules, EditFault>
     ensures { IsRulesAnswer result tables.now }
 {
     let sum = demand_sum(tables);
-    if sum > MOST_DEMAND {
+    if sum > MOST_DEMAND_IN_ALL {
         return Err(EditFault::Limit(LimitFault::TooMuchDemand { sum }));
     }
     unlocked(alloc, tables)

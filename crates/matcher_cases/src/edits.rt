@@ -24,7 +24,9 @@ fn table_of(alloc: Global, name: &str) -> anyhow::Result<TableName> {
 }
 
 fn values_of(alloc: Global, name: &str) -> anyhow::Result<TableName> {
-    let name = name.strip_prefix("values-").context("no table has this name")?;
+    let name = name
+        .strip_prefix("values-")
+        .context("no table has this name")?;
     let source = Text::read(alloc, name)?;
     Ok(TableName::Values { source })
 }
@@ -41,7 +43,11 @@ fn edit_of(table: TableName, how: &str, body: Body) -> Edit
         },
         _ => Edit {
             table,
-            how: if how == "merge" { How::Merge } else { How::Replace },
+            how: if how == "merge" {
+                How::Merge
+            } else {
+                How::Replace
+            },
             body,
         },
     }
@@ -60,11 +66,18 @@ fn refusal_of(alloc: Global, table: &str, fault: EditFault) -> anyhow::Result<Lo
 }
 
 // Prints the rules after an edit, or the line of its fault.
-fn print_answer(rt: &HostRuntime, table: &str, answer: Result<Edited, EditFault>) -> anyhow::Result<Option<Venue>> {
+fn print_answer(
+    rt: &HostRuntime,
+    table: &str,
+    answer: Result<Edited, EditFault>,
+) -> anyhow::Result<Option<Venue>> {
     let mut sink = SureSink::new(rt.alloc());
     let (written, venue) = match answer {
         Ok(edited) => (write_rules(&edited.rules, &mut sink), Some(edited.venue)),
-        Err(fault) => (write_refusal(&refusal_of(rt.alloc(), table, fault)?, &mut sink), None),
+        Err(fault) => (
+            write_refusal(&refusal_of(rt.alloc(), table, fault)?, &mut sink),
+            None,
+        ),
     };
     if written == Err(Io::Failed) {
         bail!("writing failed");

@@ -4,14 +4,15 @@ use Rattle.edge_io.specs.FileValues.{FileValue}
 use Rattle.editions.specs.declared.fault.LoadFault.{LoadFault}
 use Rattle.editions.specs.declared.fault.LoadFault.TheVariants as load
 use Rattle.editions.specs.declared.venue.Edited.{Edited}
-use Rattle.editions.specs.Loads.{IsLoaded, IsLoadAnswer, venue_in}
+use Rattle.editions.specs.Answers.{IsEdited}
+use Rattle.editions.specs.Loads.{IsLoadAnswer, venue_in}
 use Rattle.matcher_cli.specs.declared.status.Status.{Status}
 use Rattle.matcher_cli.specs.declared.status.Status.TheVariants.{Done, Broken, Usage, ReadFault, WriteFault, Refused, Memory}
 use Rattle.matcher_cli.specs.FolderRules.{Answered, HasLine, IsFaultTold, IsServedExactly, RulesServed, rules_in, rules_of_loaded, within_limits}
 use Rattle.matcher_cli.specs.Verdicts.{IsFault}
 
 -- the rules of a venue that was loaded
-pub loaded_rules : (files : List FileValue) (edited : Edited) → IsLoaded edited (venue_in files) → rules_in files ≡ Ok edited.rules
+pub loaded_rules : (files : List FileValue) (edited : Edited) → IsEdited edited (venue_in files) → rules_in files ≡ Ok edited.rules
 unfolding rules_in
 loaded_rules files edited loaded = ap rules_of_loaded loaded.venue ∙ ap within_limits loaded.rules
 
@@ -21,7 +22,7 @@ unfolding rules_in
 refused_rules files load.Memory line answer = absurd line
 refused_rules files load.Folder line answer = absurd line
 refused_rules files (load.Bad file row fault) line answer = ap rules_of_loaded answer
-refused_rules files (load.Limit fault) line answer = ap rules_of_loaded answer.loaded_so ∙ ap within_limits answer.limited
+refused_rules files (load.Limit fault) line answer = ap rules_of_loaded answer.made_so ∙ ap within_limits answer.limited
 
 -- what is told of a fault is what is served
 pub told_served : (status : Status) (files : List FileValue) (fault : LoadFault) (old : List ℕ) (new : Option (List ℕ))

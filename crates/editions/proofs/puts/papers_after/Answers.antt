@@ -4,4 +4,4 @@ use Rattle.editions.proofs.Rows.{rows_are_few}
 use Rattle.editions.proofs.puts.papers_after.Goals as goal
 
 pub put_body-requires : goal.put_body-requires
-put_body-requires c = let few = rows_are_few paper_row paper_columns 1500 c.args.body.now c.in-Ok.rows.items c.in-Ok.ensures in omega arith
+put_body-requires c = let few = rows_are_few paper_row paper_columns 1500 c.args.body.now c.in_ok-rows.rows.items c.in_ok-rows.ensures in omega arith

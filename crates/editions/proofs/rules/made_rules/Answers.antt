@@ -2,7 +2,7 @@ use Rattle.std.proofs.Common.{◌≡◌, ◌∙◌, ◌≤◌, List, All, length
 use Rattle.match_rules.specs.declared.rules.RulePair.{RulePair}
 use Rattle.match_rules.specs.Rules.{AreRules, IsLimit, rules_value}
 use Rattle.editions.specs.Candidates.{candidates}
-use Rattle.editions.specs.Found.{IsWithin}
+use Rattle.editions.specs.Found.{IsPair}
 use Rattle.editions.specs.Venues.{VenueValue}
 use Rattle.editions.specs.VenueRules.{made_rules, rule_paper, rule_reviewer}
 use Rattle.editions.proofs.RuleLaws.{AreGoodRows, are-rules}
@@ -27,7 +27,7 @@ of_tested-requires c =
       reviewers = made_reviewers.good;
     } in
     let few : length (candidates venue) ≤ 250000 = subst (λ (pairs : List RulePair). length pairs ≤ 250000) c.requires.pairs c.requires.few in
-    let within : All IsWithin (candidates venue) = subst (λ (pairs : List RulePair). All IsWithin pairs) c.requires.pairs c.requires.within in
+    let within : All IsPair (candidates venue) = subst (λ (pairs : List RulePair). All IsPair pairs) c.requires.pairs c.requires.within in
     let same : rules_value c.limit-limit.result c.in_ok-papers.papers.items c.in_ok-reviewers.reviewers.items c.args.pairs.items ≡ made_rules venue =
     ap (λ l. rules_value l c.in_ok-papers.papers.items c.in_ok-reviewers.reviewers.items c.args.pairs.items) limit
     ∙ ap (λ ps. rules_value venue.settings.limit ps c.in_ok-reviewers.reviewers.items c.args.pairs.items) made_papers.same
