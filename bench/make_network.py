@@ -1,8 +1,11 @@
 #!/usr/bin/env python3
 """Writes the network of a made conference as text: `NODES ARCS`, then a line `TAIL HEAD FLOOR ROOM COST` for each arc.
 
-usage: make_network.py blocks SEED SIZE     60 papers, 45 reviewers and 2,400 pairs a block
-       make_network.py dense                1,500 papers, 1,125 reviewers, 250,000 pairs, uneven caps, contended reviewers
+usage: make_network.py blocks SEED SIZE WORD..     60 papers, 45 reviewers and 2,400 pairs a block
+       make_network.py dense WORD..                1,500 papers, 1,125 reviewers, 250,000 pairs, uneven caps, contended reviewers
+
+Words: `five`, costs rounded to -1, -0.5, 0, 0.5 or 1; `zero`, costs of 0; `uneven`, caps of 1,000 to 8,363 tickets; `low`, caps
+of 600 tickets, so that there is no circulation.
 """
 import sys
 
@@ -58,9 +61,30 @@ def network(papers, reviewers, pairs, demand, greatest, limit, institution):
     return hub + 1, arcs
 
 
+def rounded(score):
+    half = 500000
+    return (1 if score > 0 else -1) * ((abs(score) + half // 2) // half * half)
+
+
+def changed(pairs, words):
+    numbers = draws(3)
+    for paper, reviewer, score, cap in pairs:
+        if "five" in words:
+            score = rounded(score)
+        if "zero" in words:
+            score = 0
+        if "uneven" in words:
+            cap = 1000 + next(numbers) % 7364
+        if "low" in words:
+            cap = 600
+        yield paper, reviewer, score, cap
+
+
 def main():
-    made = dense() if sys.argv[1] == "dense" else blocks(int(sys.argv[2]), int(sys.argv[3]))
-    nodes, arcs = network(*made)
+    is_dense = sys.argv[1] == "dense"
+    papers, reviewers, pairs, *rest = dense() if is_dense else blocks(int(sys.argv[2]), int(sys.argv[3]))
+    words = sys.argv[2 if is_dense else 4 :]
+    nodes, arcs = network(papers, reviewers, list(changed(pairs, words)), *rest)
     out = [f"{nodes} {len(arcs)}\n"]
     out += [f"{t} {h} {f} {u} {c}\n" for t, h, f, u, c in arcs]
     sys.stdout.write("".join(out))

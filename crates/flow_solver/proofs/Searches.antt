@@ -37,7 +37,7 @@ end_among arc true false = inl refl
 end_among arc false true = inl refl
 end_among arc false false = inr refl
 
--- one distance fell, and no other changed
+-- one distance is lower, and no other changed
 pub record IsLowered (old new : List ℕ) (w d : ℕ) : Type 0 where
   pub long : length new ≡ length old
   pub at : distance_at new w ≡ d
@@ -104,7 +104,7 @@ module _ (net : NetworkValue) (state : State) (old new : List ℕ) (w d : ℕ) (
         near = λ u v su sv. rw (lowered.others u (settled_apart settled u w su unsettled), lowered.others v (settled_apart settled v w sv unsettled)) (is_tree.near u v su sv);
       }
 
--- the search once a distance fell
+-- the search once a distance is lower
 pub IsSearchOf-lower : (net : NetworkValue) (state : State) (source node : ℕ) (tree reaches : List Reach) (distances : List ℕ) (settled : List Bool) (waiting : List (Reverse ℕ × ℕ))
     → IsSearchOf net state source node tree reaches distances settled waiting
     → (w d : ℕ) (distances' : List ℕ) (reaches' : List Reach) (waiting' : List (Reverse ℕ × ℕ))

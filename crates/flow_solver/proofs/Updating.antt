@@ -67,12 +67,12 @@ module _ (net : NetworkValue) (state : State) (source node : ℕ) (tree reaches 
         let short = tree_short net state source tree distances settled search.is_tree in
         let some = search.is_tree.some in
         let at = calm node search.node_in lacks in
-        let fell = updated_at v b in
-        record { low = omega (arith, ints, near, above, below, short, some, at.low, at.high, fell); high = omega (arith, ints, near, above, below, short, some, at.low, at.high, fell) }
+        let lower = updated_at v b in
+        record { low = omega (arith, ints, near, above, below, short, some, at.low, at.high, lower); high = omega (arith, ints, near, above, below, short, some, at.low, at.high, lower) }
     | inr far ↦
         let was = kept.bounded v b in
-        let fell = updated_at v b in
-        record { low = omega (arith, ints, was.low, fell, far); high = omega (arith, ints, was.high, fell, far) }
+        let lower = updated_at v b in
+        record { low = omega (arith, ints, was.low, lower, far); high = omega (arith, ints, was.high, lower, far) }
   ]
 
   pub IsState-updated : IsState net state.flow.items state.excess.items potentials
@@ -94,8 +94,8 @@ module _ (net : NetworkValue) (state : State) (source node : ℕ) (tree reaches 
         absurd (omega (arith, ints, lack, search.calm v s.0 s.1))
     | inr far ↦
         let was = calm v b lack in
-        let fell = updated_at v b in
-        record { low = omega (arith, ints, was.low, fell, far); high = omega (arith, ints, was.high, fell, far) }
+        let lower = updated_at v b in
+        record { low = omega (arith, ints, was.low, lower, far); high = omega (arith, ints, was.high, lower, far) }
   ]
 
   pub IsPath-updated : (amount : ℕ) (updated_state : State) → updated_state.flow.items ≡ state.flow.items → updated_state.potentials.items ≡ potentials → amount ≤ (reach_at tree (length tree - 1)).width → IsPath net updated_state tree amount
