@@ -11,7 +11,7 @@ use Rattle.match_rules.specs.Sums.{sum_below}
 use Rattle.dual_check.proofs.Exchange.{sum_of, exchange, all_first, all_others}
 use Rattle.dual_check.proofs.Ints.{sum_times, times_times}
 use Rattle.dual_check.proofs.SumLaws.{sum_below-same, sum_below-sum, sum_below-zero, sum_below-times, sum_below-at}
-use Rattle.publication.specs.Checks.{counted_total}
+use Rattle.match_rules.specs.SharesFit.{shares_score}
 
 -- the score of a pair
 abbrev score : RulesValue → ℕ → ℤ
@@ -62,7 +62,7 @@ total_by_pairs rules (piece ∷ lottery) known =
 
 -- where each pair has its share, the total is what the shares make
 pub total_of_shares : (rules : RulesValue) (shares : List ℕ) (lottery : List Piece) → LotteryMatches rules lottery
-    → ((e : ℕ) → e < length rules.pairs → times lottery e ≡ slice_index shares e) → total rules lottery ≡ counted_total rules shares
+    → ((e : ℕ) → e < length rules.pairs → times lottery e ≡ slice_index shares e) → total rules lottery ≡ shares_score rules shares
 total_of_shares rules shares lottery known exact =
     total_by_pairs rules lottery known
     ∙ sum_below-same (length rules.pairs) (earned rules lottery) (λ e. pos (slice_index shares e) *ℤ score rules e)

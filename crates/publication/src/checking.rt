@@ -11,8 +11,9 @@ ghost use Rattle.match_rules.specs.Breaks.{unless};
 ghost use Rattle.match_rules.specs.Rules.{pair_at};
 ghost use Rattle.match_rules.specs.Sound.{sizes_of};
 ghost use Rattle.match_rules.specs.Thresholds.{sieve_of};
+ghost use Rattle.match_rules.specs.SharesFit.{shares_score};
 ghost use Rattle.publication.specs.Certificates.{IsWhole};
-ghost use Rattle.publication.specs.Checks.{counted_total, total_break, bound_break, worth_break, lottery_break, cut_break, check_break_of, Holds, IsFullyChecked};
+ghost use Rattle.publication.specs.Checks.{total_break, bound_break, worth_break, lottery_break, cut_break, check_break_of, Holds, IsFullyChecked};
 
 use dual_check::{Excess, bound, excess};
 use match_rules::{
@@ -57,7 +58,7 @@ fn pair_term(rules: &Rules, shares: &Shares, pair: usize) -> i128
 // The sum over the pairs of share times score. It is below 2^98, since there are fewer than 2^18 pairs.
 fn total_of(rules: &Rules, shares: &Shares) -> i128
     requires { SharesMatch rules.now shares.now }
-    ensures { result ≡ counted_total rules.now shares.now }
+    ensures { result ≡ shares_score rules.now shares.now }
 {
     let count = rules.pairs().len();
     let mut sum = 0;
