@@ -17,10 +17,10 @@ use Rattle.match_rules.specs.Assignments.{Fits, tickets, keeps}
 use Rattle.match_rules.specs.Evidence.{most_at, marks, tail_marked, head_marked, enters, leaves, leaves_group, enters_group, need_by, room_by, Violated, floors_where, caps_where}
 use Rattle.match_rules.specs.Sums.{sum_below, count_below, when, int_when}
 use Rattle.dual_check.proofs.Duality.{Values, total_by, rest_by, papers_by, groups_by, reviewers_by, parts_by, pair_by, pairs_by, bound_by, no_lottery_beats_bound_by}
-use Rattle.dual_check.proofs.Exchange.{sum_of}
+use Rattle.match_rules.proofs.Exchange.{sum_of}
 use Rattle.match_rules.proofs.GroupLaws.{group_of_paper}
-use Rattle.dual_check.proofs.Ints.{times_sum, times_neg, times_zero, times_more}
-use Rattle.dual_check.proofs.SumLaws.{sum_below-same, sum_below-sum, sum_below-neg, sum_below-pos}
+use Rattle.match_rules.proofs.Ints.{times_sum, times_neg, times_zero, times_more}
+use Rattle.match_rules.proofs.SumLaws.{sum_below-same, sum_below-sum, sum_below-neg, sum_below-pos}
 
 -- 1 where the test holds
 abbrev unit : Bool → ℤ

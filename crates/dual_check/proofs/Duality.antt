@@ -14,9 +14,9 @@ use Rattle.match_rules.specs.Groups.{group_count, group_of, is_in_group}
 use Rattle.match_rules.specs.Assignments.{Meets, Fits, tickets, times, holds, paper_count, reviewer_count, member_count, keeps, cap_under}
 use Rattle.match_rules.specs.Evidence.{most_at}
 use Rattle.match_rules.specs.Sums.{sum_below, int_when, when}
-use Rattle.dual_check.proofs.Ints.{sum_times, times_sum, times_times, times_swap, times_more, times_zero, between, up_to, most_at-times}
-use Rattle.dual_check.proofs.SumLaws.{sum_below-same, sum_below-more, sum_below-sum, sum_below-zero, sum_below-times, sum_below-at}
-use Rattle.dual_check.proofs.Exchange.{sum_of, sum_of-sum, sum_of-same, exchange, all_first, all_others}
+use Rattle.match_rules.proofs.Ints.{sum_times, times_sum, times_times, times_swap, times_more, times_zero, between, up_to, most_at-times}
+use Rattle.match_rules.proofs.SumLaws.{sum_below-same, sum_below-more, sum_below-sum, sum_below-zero, sum_below-times, sum_below-at}
+use Rattle.match_rules.proofs.Exchange.{sum_of, sum_of-sum, sum_of-same, exchange, all_first, all_others}
 use Rattle.match_rules.proofs.GroupLaws.{group_of_below}
 
 -- scores of pairs, and prices of papers, groups and reviewers, of any kind

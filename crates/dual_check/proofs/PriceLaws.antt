@@ -8,7 +8,7 @@ use Rattle.match_rules.specs.Rules.{RulesValue, AreRules, pair_at}
 use Rattle.match_rules.specs.Assignments.{Fits, Best, tickets, score_of, total}
 use Rattle.match_rules.specs.Evidence.{bound, price_at}
 use Rattle.dual_check.proofs.Duality.{Values, total_by, no_lottery_beats_bound_by}
-use Rattle.dual_check.proofs.Exchange.{sum_of}
+use Rattle.match_rules.proofs.Exchange.{sum_of}
 
 -- the scores of the rules with printed prices
 abbrev pub values_of : RulesValue → Prices → Values

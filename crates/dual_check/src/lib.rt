@@ -3,7 +3,6 @@
 
 mod amounts;
 mod cuts;
-mod keeps;
 mod marks;
 mod prices;
 mod sums;

@@ -7,7 +7,6 @@ ghost use Rattle.match_rules.specs.Groups.{group_count};
 ghost use Rattle.match_rules.specs.Pieces.{DoAscend};
 ghost use Rattle.dual_check.specs.Crossing.{goes, crosses, crosses_group};
 
-use crate::keeps::is_kept;
 use match_rules::{Cut, Places, Rules, Side, Sieve};
 
 /// Whether a place is among marked ones.
@@ -57,7 +56,7 @@ pub(crate) fn is_crossing(rules: &Rules, sieve: Sieve, cut: &Cut, way: Side, pai
 {
     let tail = is_tail_marked(rules, cut, pair);
     let head = is_head_marked(rules, cut, pair);
-    is_kept(rules, sieve, pair) && goes_over(way, tail, head)
+    rules.keeps(sieve, pair) && goes_over(way, tail, head)
 }
 
 /// Whether the way from a paper to its group goes into, or out of, the marked nodes.

@@ -11,7 +11,6 @@ ghost use Rattle.match_rules.specs.Sums.{int_when};
 ghost use Rattle.dual_check.specs.Priced.{ArePriced};
 
 use crate::amounts::{charged, for_all, less, most_of, plus, priced};
-use crate::keeps::is_kept;
 use match_rules::{MOST_PAIRS, MOST_PAPERS, MOST_REVIEWERS, Prices, Rules, Sieve};
 
 /// The price of what a paper demands.
@@ -98,7 +97,7 @@ fn pair_term(rules: &Rules, sieve: Sieve, prices: &Prices, pair: u32) -> i128
     ensures low { neg_ℤ (pos (2 ^ 80)) ≤ℤ result }
     ensures high { result ≤ℤ pos (2 ^ 80) }
 {
-    if !is_kept(rules, sieve, pair) {
+    if !rules.keeps(sieve, pair) {
         return 0;
     }
     let rest = rest_of(rules, prices, pair);

@@ -1,7 +1,5 @@
 -- The first rows of a list keep all conditions exactly where each of them keeps those of a next row.
 use Rattle.std.proofs.Common.{◌≡◌, ℕ, zero, suc, ◌+◌, ◌<◌, ◌≤◌, List, length, take, true, Some, refl, ap, arith, add-one}
-use Rattle.std.proofs.Common.{inl, inr}
-use Rattle.std.proofs.lemmas.Bool.{cases_lt}
 use Rattle.std.proofs.lemmas.List.{get_or-take, length-take-le, take_all}
 use Rattle.std.specs.declared.cmp.Ordering.TheVariants.{Less}
 use Rattle.match_rules.specs.declared.rules.TheConstants.{MOST_PAPERS, MOST_REVIEWERS, MOST_PAIRS, MOST_DEMAND, MOST_DEMAND_IN_ALL, MOST_LOAD}
@@ -11,29 +9,12 @@ use Rattle.match_rules.specs.declared.rules.RulePair.{RulePair}
 use Rattle.match_rules.specs.Id.{is_id, is_institution}
 use Rattle.match_rules.specs.Rules.{no_paper, no_reviewer, no_pair, paper_in, reviewer_in, pair_in, id_cmp, IsPair, IsPairBefore, ArePapers, AreReviewers, ArePairs, IsFirstFault}
 use Rattle.match_rules.specs.NextRows.{demand_below, IsNextPaper, IsNextReviewer, IsNextPair}
-use Rattle.match_rules.specs.Sums.{count_below}
+use Rattle.match_rules.proofs.SumLaws.{count_below-same, count_below-le}
 
 -- a count, below a limit where each place below it is
 pub few_below : (n limit : ℕ) → ((p : ℕ) → p < n → p < limit) → n ≤ limit
 few_below zero limit each = omega arith
 few_below (suc n) limit each = let last : n < limit = each n (omega arith) in omega arith
-
--- equal addends have equal sums
-pub count_below-same : (n : ℕ) (f g : ℕ → ℕ) → ((k : ℕ) → k < n → f k ≡ g k) → count_below n f ≡ count_below n g
-count_below-same zero f g same = refl
-count_below-same (suc n) f g same =
-    let before : count_below n f ≡ count_below n g = count_below-same n f g (λ k h. same k (omega arith)) in
-    let last : f n ≡ g n = same n (omega arith) in
-    omega arith
-
--- a sum over fewer places is no greater
-pub count_below-le : (n m : ℕ) (f : ℕ → ℕ) → m ≤ n → count_below m f ≤ count_below n f
-count_below-le zero m f h = let none : m ≡ 0 = omega arith in rw none (omega arith)
-count_below-le (suc n) m f h =
-    elim (cases_lt m (suc n)) [
-      | inl below ↦ (let step : count_below m f ≤ count_below n f = count_below-le n m f (omega arith) in omega arith)
-      | inr above ↦ (let all : m ≡ suc n = omega arith in rw all (omega arith))
-    ]
 
 -- the papers
 paper_in-take : (papers : List RulePaper) (n p : ℕ) → p < n → paper_in (take n papers) p ≡ paper_in papers p

@@ -1,6 +1,8 @@
 pub mod Ascending
+pub mod ChosenLaws
 pub mod Counted
 pub mod Counts
+pub mod Exchange
 pub mod Firsts
 pub mod Found
 pub mod Fronts
@@ -11,8 +13,12 @@ pub mod GroupKeys
 pub mod GroupLaws
 pub mod Holding
 pub mod IdLaws
+pub mod Ints
 pub mod Locked
 pub mod Locks
 pub mod Names
 pub mod Numbers
+pub mod SieveLaws
 pub mod Soundness
+pub mod SumLaws
+pub mod Totals

@@ -120,8 +120,10 @@ IsRounding all amount count = (count ≡ amount / all) ⊎ (count ≡ amount / a
 abbrev pub shares_where : RulesValue → List ℕ → (ℕ → Bool) → ℕ
 shares_where rules shares test = count_below (length rules.pairs) (λ e. when (test e) (slice_index shares e))
 
--- each reviewer's count, each group's and each pair's in an assignment is its sum of shares, rounded down or up
+-- an assignment of pairs of the rules in which each reviewer's count, each group's and each pair's is its sum of shares,
+-- rounded down or up
 pub record Rounded (rules : RulesValue) (shares places : List ℕ) : Type 0 where
+  pub candidates : All (λ e. e < length rules.pairs) places
   pub reviewers : (r : ℕ) → r < length rules.reviewers → IsRounding rules.tickets (shares_where rules shares (λ e. (pair_at rules e).reviewer == r)) (reviewer_count rules places r)
   pub of_groups : (g : ℕ) → g < group_count rules → IsRounding rules.tickets (shares_where rules shares (is_in_group rules g)) (member_count rules places g)
   pub pairs : (e : ℕ) → e < length rules.pairs → IsRounding rules.tickets (slice_index shares e) (holds places e)

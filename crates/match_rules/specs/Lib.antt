@@ -1,6 +1,7 @@
 pub mod Answers
 pub mod Assignments
 pub mod Breaks
+pub mod Chosen
 pub mod Evidence
 pub mod Examples
 pub mod First
@@ -13,6 +14,7 @@ pub mod Plain
 pub mod Rules
 pub mod RulesFaults
 pub mod SharesFit
+pub mod Sieves
 pub mod Sound
 pub mod Sums
 pub mod Thresholds

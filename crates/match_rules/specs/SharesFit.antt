@@ -1,9 +1,10 @@
 -- Shares of the pairs that fit rules, counted in tickets, before whole assignments are made of them.
 use Rattle.std.specs.Prelude.{◌≡◌, ℕ, ◌*◌, ◌<◌, ◌≤◌, ◌==◌, List, length, slice_index, ℤ, pos, ◌*ℤ◌}
 use Rattle.match_rules.specs.declared.answer.Sieve.{Sieve}
+use Rattle.match_rules.specs.declared.lottery.Piece.{Piece}
 use Rattle.match_rules.specs.Rules.{RulesValue, paper_at, reviewer_at, pair_at}
 use Rattle.match_rules.specs.Groups.{group_count, is_in_group}
-use Rattle.match_rules.specs.Assignments.{cap_under}
+use Rattle.match_rules.specs.Assignments.{cap_under, times}
 use Rattle.match_rules.specs.Answers.{shares_where}
 use Rattle.match_rules.specs.Sums.{sum_below}
 
@@ -16,6 +17,10 @@ group_shares rules shares g = shares_where rules shares (is_in_group rules g)
 
 abbrev pub reviewer_shares : RulesValue → List ℕ → ℕ → ℕ
 reviewer_shares rules shares r = shares_where rules shares (λ e. (pair_at rules e).reviewer == r)
+
+-- a lottery that gives each pair its share of the tickets
+abbrev pub HasShares : RulesValue → List ℕ → List Piece → Type 0
+HasShares rules shares lottery = (e : ℕ) → e < length rules.pairs → times lottery e ≡ slice_index shares e
 
 -- the scores of the pairs, each times its share
 abbrev pub shares_score : RulesValue → List ℕ → ℤ

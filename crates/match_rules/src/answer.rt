@@ -47,6 +47,21 @@ pub enum Sieve {
     },
 }
 
+impl Sieve {
+    ghost use Rattle.match_rules.specs.Assignments.{lets_pass};
+
+    /// Whether a score passes.
+    pub fn lets_pass(self, score: i64) -> bool
+        ensures { result ≡ lets_pass self score }
+    {
+        match self {
+            Sieve::All => true,
+            Sieve::AtLeast { score: least } => least <= score,
+            Sieve::Above { score: bound } => bound < score,
+        }
+    }
+}
+
 /// Marked papers, groups and reviewers: evidence that nothing fits, where more has to pass than may pass.
 #[derive(Drop)]
 pub struct Cut {

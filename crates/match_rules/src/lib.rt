@@ -4,6 +4,7 @@
 mod answer;
 mod breaks;
 mod check;
+mod chosen;
 mod examples;
 mod group_check;
 mod groups;
@@ -16,6 +17,8 @@ mod matching;
 mod parts;
 mod pieces;
 mod rules;
+mod scores;
+mod sieves;
 mod sizes;
 
 pub use answer::{
@@ -23,6 +26,7 @@ pub use answer::{
 };
 pub use breaks::Break;
 pub use check::{Scratch, first_break};
+pub use chosen::chosen_places;
 pub use examples::{
     worked_breaks, worked_cuts, worked_groups, worked_ids, worked_sieves, worked_totals,
 };
@@ -35,4 +39,6 @@ pub use rules::{
     MOST_DEMAND, MOST_DEMAND_IN_ALL, MOST_LIMIT, MOST_LOAD, MOST_PAIRS, MOST_PAPERS,
     MOST_REVIEWERS, MOST_SCORE, MOST_TICKETS, RulePair, RulePaper, RuleReviewer, Rules, RulesFault,
 };
+pub use scores::shares_score;
+pub use sieves::sieve_laws;
 pub use sizes::Sizes;

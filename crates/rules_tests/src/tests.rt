@@ -4,7 +4,7 @@ use dual_check::{is_best, is_violated};
 use match_rules::{
     Answer, Blocked, Cut, IdFault, Institution, Level, Lottery, Mode, PaperId, Piece, Places,
     PriceList, Prices, ReviewerId, RulePair, RulePaper, RuleReviewer, Rules, RulesFault, Scratch,
-    Shares, Side, Sieve, Winning, first_break, matches,
+    Shares, Side, Sieve, Winning, chosen_places, first_break, matches,
 };
 use std::alloc::{AllocError, Global};
 use std::test::Fail;
@@ -54,7 +54,7 @@ fn pairs_of(alloc: Global, rows: &[(u32, u32, i64)]) -> Result<Vec<RulePair>, Al
 
 // Two papers, of which the first has this id, and two reviewers, of whom the first has at least this many papers, with
 // two pairs, the last of this paper.
-fn made(
+fn rules_with(
     alloc: Global,
     limit: u32,
     id: &str,
@@ -67,8 +67,8 @@ fn made(
     Ok(Rules::new(alloc, limit, papers, reviewers, pairs))
 }
 
-fn fault_of(made: Result<Rules, RulesFault>) -> Option<RulesFault> {
-    match made {
+fn fault_of(rules: Result<Rules, RulesFault>) -> Option<RulesFault> {
+    match rules {
         Ok(_) => None,
         Err(fault) => Some(fault),
     }
@@ -83,7 +83,10 @@ fn rules_are_made_or_their_fault_is_named(rt: HostRuntime) -> Result<(), Fail> {
         (1, "p1", 2, 1, Some(RulesFault::Reviewers { place: 0 })),
         (1, "p1", 0, 0, Some(RulesFault::Pairs { place: 1 })),
     ] {
-        assert_eq!(rt; fault_of(made(rt.alloc(), limit, id, least, paper)?), fault);
+        assert_eq!(rt;
+            fault_of(rules_with(rt.alloc(), limit, id, least, paper)?),
+            fault
+        );
     }
     Ok(())
 }
@@ -138,8 +141,8 @@ fn places_of(alloc: Global, places: &[u32]) -> Result<Places, AllocError> {
 // Both papers have the reviewer that they share in turn, by 7000 and 3000 tickets.
 fn lottery(alloc: Global) -> Result<Lottery, Fail> {
     let mut pieces = Vec::new(alloc);
-    for (weight, places) in [(7000, [0, 3]), (3000, [1, 2])] {
-        let pairs = places_of(alloc, &places)?;
+    for (weight, counts) in [(7000, [1, 0, 0, 1]), (3000, [0, 1, 1, 0])] {
+        let pairs = chosen_places(alloc, &counts)?;
         pieces.push(Piece { weight, pairs })?;
     }
     Ok(Lottery::new(pieces).ok().ok_or("no lottery")?)

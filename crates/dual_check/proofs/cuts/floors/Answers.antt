@@ -1,5 +1,5 @@
 use Rattle.std.proofs.Common.{arith}
-use Rattle.dual_check.proofs.SumLaws.{count_below_next}
+use Rattle.match_rules.proofs.SumLaws.{count_below_next}
 use Rattle.dual_check.proofs.cuts.floors.Goals as goal
 
 pub loop-pair-preserved : goal.loop-pair-preserved

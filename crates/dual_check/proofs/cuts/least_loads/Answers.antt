@@ -1,5 +1,5 @@
 use Rattle.std.proofs.Common.{arith}
-use Rattle.dual_check.proofs.SumLaws.{count_below_next}
+use Rattle.match_rules.proofs.SumLaws.{count_below_next}
 use Rattle.dual_check.proofs.cuts.least_loads.Goals as goal
 
 pub loop-reviewer-preserved : goal.loop-reviewer-preserved

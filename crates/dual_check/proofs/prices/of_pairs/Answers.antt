@@ -1,6 +1,6 @@
 use Rattle.std.proofs.Common.{arith}
 use Rattle.std.proofs.lemmas.Int.{ints}
-use Rattle.dual_check.proofs.SumLaws.{sum_below_next}
+use Rattle.match_rules.proofs.SumLaws.{sum_below_next}
 use Rattle.dual_check.proofs.prices.of_pairs.Goals as goal
 
 pub loop-pair-preserved : goal.loop-pair-preserved

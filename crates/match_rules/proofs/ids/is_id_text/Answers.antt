@@ -1,5 +1,5 @@
-use Rattle.std.proofs.Common.{◌≡◌, true, false, sym, ◌∙◌}
-use Rattle.match_rules.specs.Id.{is_id, is_id_char, has_id_length}
+use Rattle.std.proofs.Common.{sym, ◌∙◌}
+use Rattle.match_rules.specs.Id.{is_id, is_id_char}
 use Rattle.match_rules.proofs.IdLaws.{is_name-length, is_name-chars}
 use Rattle.match_rules.proofs.ids.is_id_text.Goals as goal
 

@@ -1,5 +1,5 @@
-use Rattle.std.proofs.Common.{◌≡◌, true, false, sym, ◌∙◌}
-use Rattle.match_rules.specs.Id.{is_institution, is_institution_char, has_id_length}
+use Rattle.std.proofs.Common.{sym, ◌∙◌}
+use Rattle.match_rules.specs.Id.{is_institution, is_institution_char}
 use Rattle.match_rules.proofs.IdLaws.{is_name-length, is_name-chars}
 use Rattle.match_rules.proofs.ids.is_institution_text.Goals as goal
 
