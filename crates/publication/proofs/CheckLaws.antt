@@ -26,7 +26,7 @@ use Rattle.dual_check.proofs.PriceLaws.{best_at_bound}
 use Rattle.match_rules.specs.SharesFit.{shares_score}
 use Rattle.publication.specs.Certificates.{IsWhole}
 use Rattle.publication.specs.Checks.{printed_bound, total_break, bound_break, worth_break, lottery_break, counted_break, violated_break, cut_break}
-use Rattle.publication.proofs.CheckSums.{total_of_shares}
+use Rattle.match_rules.proofs.Totals.{total_of_shares}
 
 -- no break comes exactly where the test holds
 kept : (test : Bool) (broken : Break) → unless test broken ≡ None → test ≡ true

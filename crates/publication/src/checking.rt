@@ -17,56 +17,8 @@ ghost use Rattle.publication.specs.Checks.{total_break, bound_break, worth_break
 
 use dual_check::{Excess, bound, excess};
 use match_rules::{
-    Answer, Blocked, Break, Level, MOST_TICKETS, Rules, Scratch, Shares, Sieve, Winning,
-    first_break,
+    Answer, Blocked, Break, Level, Rules, Scratch, Sieve, Winning, first_break, shares_score,
 };
-
-// What the tickets of a pair add to the total.
-fn share_term(share: u32, score: i64) -> i128
-    requires few { share ≤ MOST_TICKETS }
-    ensures value { result ≡ pos share *ℤ score }
-    ensures low { neg_ℤ (pos (2 ^ 80)) ≤ℤ result }
-    ensures high { result ≤ℤ pos (2 ^ 80) }
-{
-    share as i128 * score as i128
-}
-
-// The sum so far and what one more pair adds.
-fn plus(sum: i128, term: i128) -> i128
-    requires above { neg_ℤ (pos (2 ^ 120)) ≤ℤ sum }
-    requires below { sum ≤ℤ pos (2 ^ 120) }
-    requires low { neg_ℤ (pos (2 ^ 80)) ≤ℤ term }
-    requires high { term ≤ℤ pos (2 ^ 80) }
-    ensures { result ≡ sum +ℤ term }
-{
-    sum + term
-}
-
-// What a pair adds to the total.
-fn pair_term(rules: &Rules, shares: &Shares, pair: usize) -> i128
-    requires place { pair < length rules.now.pairs }
-    requires matching { SharesMatch rules.now shares.now }
-    ensures value { result ≡ pos (slice_index shares.now pair) *ℤ (pair_at rules.now pair).score }
-    ensures low { neg_ℤ (pos (2 ^ 80)) ≤ℤ result }
-    ensures high { result ≤ℤ pos (2 ^ 80) }
-{
-    let pairs = rules.pairs();
-    let shares = shares.as_slice();
-    share_term(shares[pair], pairs[pair].score)
-}
-
-// The sum over the pairs of share times score. It is below 2^98, since there are fewer than 2^18 pairs.
-fn total_of(rules: &Rules, shares: &Shares) -> i128
-    requires { SharesMatch rules.now shares.now }
-    ensures { result ≡ shares_score rules.now shares.now }
-{
-    let count = rules.pairs().len();
-    let mut sum = 0;
-    for pair in 0..count {
-        sum = plus(sum, pair_term(rules, shares, pair));
-    }
-    sum
-}
 
 // A break where a test doesn't hold.
 fn unless(holds: bool, broken: Break) -> Option<Break>
@@ -81,7 +33,7 @@ fn broken_total(rules: &Rules, winning: &Winning) -> Option<Break>
     ensures { result ≡ total_break rules.now winning.now }
 {
     let printed = winning.total;
-    let counted = total_of(rules, &winning.shares);
+    let counted = shares_score(rules, &winning.shares);
     unless(printed == counted, Break::Total { printed, counted })
 }
 
