@@ -1,5 +1,5 @@
 // The first clause of the check that an answer breaks.
-ghost use Rattle.std.specs.Prelude.{◌≡◌, ◌↔◌, ◌^◌, ◌<◌, ◌≤◌, ◌==◌, ◌&&◌, List, length, slice_index, IsNone, pos, neg_ℤ, ◌+ℤ◌, ◌*ℤ◌, ◌≤ℤ◌};
+ghost use Rattle.std.specs.Prelude.{◌≡◌, ◌↔◌, ◌==◌, ◌&&◌, List, IsNone};
 ghost use Rattle.match_rules.specs.declared.answer.Blocked.{Blocked};
 ghost use Rattle.match_rules.specs.declared.answer.Mode.TheVariants.{Whole};
 ghost use Rattle.match_rules.specs.declared.answer.Sieve.TheVariants.{All as EveryPair};
@@ -8,10 +8,8 @@ ghost use Rattle.match_rules.specs.declared.lottery.Piece.{Piece};
 ghost use Rattle.match_rules.specs.Answers.{AnswerMatches, Certified, CutMatches, IsBlocked, SharesMatch, WinningMatches};
 ghost use Rattle.match_rules.specs.Assignments.{Best, Fits};
 ghost use Rattle.match_rules.specs.Breaks.{unless};
-ghost use Rattle.match_rules.specs.Rules.{pair_at};
 ghost use Rattle.match_rules.specs.Sound.{sizes_of};
 ghost use Rattle.match_rules.specs.Thresholds.{sieve_of};
-ghost use Rattle.match_rules.specs.SharesFit.{shares_score};
 ghost use Rattle.publication.specs.Certificates.{IsWhole};
 ghost use Rattle.publication.specs.Checks.{total_break, bound_break, worth_break, lottery_break, cut_break, check_break_of, Holds, IsFullyChecked};
 
