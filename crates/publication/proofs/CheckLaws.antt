@@ -23,9 +23,10 @@ use Rattle.match_rules.proofs.Firsts.{both_none, none_both}
 use Rattle.match_rules.proofs.Soundness.{sound_iff}
 use Rattle.dual_check.proofs.CutLaws.{none_fits_at_violated}
 use Rattle.dual_check.proofs.PriceLaws.{best_at_bound}
+use Rattle.match_rules.specs.SharesFit.{shares_score}
 use Rattle.publication.specs.Certificates.{IsWhole}
-use Rattle.publication.specs.Checks.{counted_total, printed_bound, total_break, bound_break, worth_break, lottery_break, counted_break, violated_break, cut_break}
-use Rattle.publication.proofs.CheckSums.{total_of_shares}
+use Rattle.publication.specs.Checks.{printed_bound, total_break, bound_break, worth_break, lottery_break, counted_break, violated_break, cut_break}
+use Rattle.match_rules.proofs.Totals.{total_of_shares}
 
 -- no break comes exactly where the test holds
 kept : (test : Bool) (broken : Break) → unless test broken ≡ None → test ≡ true
@@ -50,7 +51,7 @@ not_there_is answer e = rw e refl
 -- what no clause of a lottery shows broken
 pub record Unbroken (rules : RulesValue) (winning : Winning) : Type 0 where
   pub sound : IsSound rules winning.shares winning.lottery
-  pub scored : winning.total ≡ counted_total rules winning.shares
+  pub scored : winning.total ≡ shares_score rules winning.shares
   pub bounded : winning.total ≡ printed_bound rules winning
 
 none_unbroken : (rules : RulesValue) (winning : Winning) → AreRules rules → ArePieces winning.lottery → WinningMatches rules winning
@@ -62,8 +63,8 @@ none_unbroken rules winning are pieces matching none =
     record {
       sound = (sound_iff rules winning.shares winning.lottery (first_break_of rules winning.shares winning.lottery) are pieces matching.pieces refl).0
           (not_there_is (first_break_of rules winning.shares winning.lottery) first.0);
-      scored = (Decides-int_eq winning.total (counted_total rules winning.shares)).0
-          (kept (int_eq winning.total (counted_total rules winning.shares)) (Total winning.total (counted_total rules winning.shares)) second.0);
+      scored = (Decides-int_eq winning.total (shares_score rules winning.shares)).0
+          (kept (int_eq winning.total (shares_score rules winning.shares)) (Total winning.total (shares_score rules winning.shares)) second.0);
       bounded = (Decides-int_eq winning.total (printed_bound rules winning)).0
           (kept (int_eq winning.total (printed_bound rules winning)) (Bound winning.total (printed_bound rules winning)) second.1);
     }
@@ -111,11 +112,11 @@ unfolding lottery_break
 certified_none rules winning answer are pieces exact c =
     let first : first_break_of rules winning.shares winning.lottery ≡ None = not_there (first_break_of rules winning.shares winning.lottery)
     ((sound_iff rules winning.shares winning.lottery (first_break_of rules winning.shares winning.lottery) are pieces c.fitting.pieces refl).1 (certified_sound rules winning c)) in
-    let scored : winning.total ≡ counted_total rules winning.shares =
+    let scored : winning.total ≡ shares_score rules winning.shares =
     sym c.scored ∙ total_of_shares rules winning.shares winning.lottery c.fitting.pieces c.exact in
     let eleven : total_break rules winning ≡ None =
-    unbroken (int_eq winning.total (counted_total rules winning.shares)) (Total winning.total (counted_total rules winning.shares))
-    ((Decides-int_eq winning.total (counted_total rules winning.shares)).1 scored) in
+    unbroken (int_eq winning.total (shares_score rules winning.shares)) (Total winning.total (shares_score rules winning.shares))
+    ((Decides-int_eq winning.total (shares_score rules winning.shares)).1 scored) in
     let twelve : bound_break rules winning ≡ None =
     unbroken (int_eq winning.total (printed_bound rules winning)) (Bound winning.total (printed_bound rules winning))
     ((Decides-int_eq winning.total (printed_bound rules winning)).1 c.bounded) in

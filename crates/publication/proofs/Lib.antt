@@ -19,6 +19,5 @@ pub mod LotteryLaws
 pub mod CutReading
 pub mod InfeasibleLaws
 pub mod CertificateLaws
-pub mod CheckSums
 pub mod CheckLaws
 pub mod WriteLaws

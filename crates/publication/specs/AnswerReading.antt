@@ -1,5 +1,5 @@
 -- Reading the text of an answer of the mode whole, line by line, for the rules that it answers.
-use Rattle.std.specs.Prelude.{ℕ, ℤ, List, length, Result, Ok, codes}
+use Rattle.std.specs.Prelude.{ℕ, ℤ, List, Result, Ok, codes}
 use Rattle.match_rules.specs.declared.answer.Answer.{Answer}
 use Rattle.match_rules.specs.declared.answer.Answer.TheVariants.{Lottery, Infeasible}
 use Rattle.match_rules.specs.declared.answer.Level.TheVariants.{Unasked}

@@ -1,5 +1,5 @@
 -- The first clause of the check that an answer breaks, and what a valid answer is.
-use Rattle.std.specs.Prelude.{ℕ, ◌==◌, ◌&&◌, nat_lt, List, length, Option, slice_index, ℤ, pos, ◌*ℤ◌}
+use Rattle.std.specs.Prelude.{◌==◌, ◌&&◌, nat_lt, Option, ℤ}
 use Rattle.std.specs.Ordering.{int_eq}
 use Rattle.match_rules.specs.declared.answer.Answer.{Answer}
 use Rattle.match_rules.specs.declared.answer.Answer.TheVariants.{Lottery, Infeasible}
@@ -13,18 +13,14 @@ use Rattle.match_rules.specs.Answers.{Certified, IsBlocked}
 use Rattle.match_rules.specs.Breaks.{unless, first_break_of}
 use Rattle.match_rules.specs.Evidence.{bound, need, room}
 use Rattle.match_rules.specs.First.{first_of_two}
-use Rattle.match_rules.specs.Rules.{RulesValue, pair_at}
-use Rattle.match_rules.specs.Sums.{sum_below}
+use Rattle.match_rules.specs.Rules.{RulesValue}
+use Rattle.match_rules.specs.SharesFit.{shares_score}
 use Rattle.match_rules.specs.Thresholds.{sieve_of}
 use Rattle.publication.specs.Certificates.{IsWhole}
 
--- the sum over the pairs of share times score
-abbrev pub counted_total : RulesValue → List ℕ → ℤ
-counted_total rules shares = sum_below (length rules.pairs) (λ e. pos (slice_index shares e) *ℤ (pair_at rules e).score)
-
--- clause 11: that sum is the printed total
+-- clause 11: the score of the shares is the printed total
 abbrev pub total_break : RulesValue → Winning → Option Break
-total_break rules winning = unless (int_eq winning.total (counted_total rules winning.shares)) (Total winning.total (counted_total rules winning.shares))
+total_break rules winning = unless (int_eq winning.total (shares_score rules winning.shares)) (Total winning.total (shares_score rules winning.shares))
 
 -- the bound of the printed prices, over the pairs that the level keeps
 abbrev pub printed_bound : RulesValue → Winning → ℤ

@@ -1,5 +1,5 @@
 // The first clause of the check that an answer breaks.
-ghost use Rattle.std.specs.Prelude.{◌≡◌, ◌↔◌, ◌^◌, ◌<◌, ◌≤◌, ◌==◌, ◌&&◌, List, length, slice_index, IsNone, pos, neg_ℤ, ◌+ℤ◌, ◌*ℤ◌, ◌≤ℤ◌};
+ghost use Rattle.std.specs.Prelude.{◌≡◌, ◌↔◌, ◌==◌, ◌&&◌, List, IsNone};
 ghost use Rattle.match_rules.specs.declared.answer.Blocked.{Blocked};
 ghost use Rattle.match_rules.specs.declared.answer.Mode.TheVariants.{Whole};
 ghost use Rattle.match_rules.specs.declared.answer.Sieve.TheVariants.{All as EveryPair};
@@ -8,64 +8,15 @@ ghost use Rattle.match_rules.specs.declared.lottery.Piece.{Piece};
 ghost use Rattle.match_rules.specs.Answers.{AnswerMatches, Certified, CutMatches, IsBlocked, SharesMatch, WinningMatches};
 ghost use Rattle.match_rules.specs.Assignments.{Best, Fits};
 ghost use Rattle.match_rules.specs.Breaks.{unless};
-ghost use Rattle.match_rules.specs.Rules.{pair_at};
 ghost use Rattle.match_rules.specs.Sound.{sizes_of};
 ghost use Rattle.match_rules.specs.Thresholds.{sieve_of};
 ghost use Rattle.publication.specs.Certificates.{IsWhole};
-ghost use Rattle.publication.specs.Checks.{counted_total, total_break, bound_break, worth_break, lottery_break, cut_break, check_break_of, Holds, IsFullyChecked};
+ghost use Rattle.publication.specs.Checks.{total_break, bound_break, worth_break, lottery_break, cut_break, check_break_of, Holds, IsFullyChecked};
 
 use dual_check::{Excess, bound, excess};
 use match_rules::{
-    Answer, Blocked, Break, Level, MOST_TICKETS, Rules, Scratch, Shares, Sieve, Winning,
-    first_break,
+    Answer, Blocked, Break, Level, Rules, Scratch, Sieve, Winning, first_break, shares_score,
 };
-
-// What the tickets of a pair add to the total.
-fn share_term(share: u32, score: i64) -> i128
-    requires few { share ≤ MOST_TICKETS }
-    ensures value { result ≡ pos share *ℤ score }
-    ensures low { neg_ℤ (pos (2 ^ 80)) ≤ℤ result }
-    ensures high { result ≤ℤ pos (2 ^ 80) }
-{
-    share as i128 * score as i128
-}
-
-// The sum so far and what one more pair adds.
-fn plus(sum: i128, term: i128) -> i128
-    requires above { neg_ℤ (pos (2 ^ 120)) ≤ℤ sum }
-    requires below { sum ≤ℤ pos (2 ^ 120) }
-    requires low { neg_ℤ (pos (2 ^ 80)) ≤ℤ term }
-    requires high { term ≤ℤ pos (2 ^ 80) }
-    ensures { result ≡ sum +ℤ term }
-{
-    sum + term
-}
-
-// What a pair adds to the total.
-fn pair_term(rules: &Rules, shares: &Shares, pair: usize) -> i128
-    requires place { pair < length rules.now.pairs }
-    requires matching { SharesMatch rules.now shares.now }
-    ensures value { result ≡ pos (slice_index shares.now pair) *ℤ (pair_at rules.now pair).score }
-    ensures low { neg_ℤ (pos (2 ^ 80)) ≤ℤ result }
-    ensures high { result ≤ℤ pos (2 ^ 80) }
-{
-    let pairs = rules.pairs();
-    let shares = shares.as_slice();
-    share_term(shares[pair], pairs[pair].score)
-}
-
-// The sum over the pairs of share times score. It is below 2^98, since there are fewer than 2^18 pairs.
-fn total_of(rules: &Rules, shares: &Shares) -> i128
-    requires { SharesMatch rules.now shares.now }
-    ensures { result ≡ counted_total rules.now shares.now }
-{
-    let count = rules.pairs().len();
-    let mut sum = 0;
-    for pair in 0..count {
-        sum = plus(sum, pair_term(rules, shares, pair));
-    }
-    sum
-}
 
 // A break where a test doesn't hold.
 fn unless(holds: bool, broken: Break) -> Option<Break>
@@ -80,7 +31,7 @@ fn broken_total(rules: &Rules, winning: &Winning) -> Option<Break>
     ensures { result ≡ total_break rules.now winning.now }
 {
     let printed = winning.total;
-    let counted = total_of(rules, &winning.shares);
+    let counted = shares_score(rules, &winning.shares);
     unless(printed == counted, Break::Total { printed, counted })
 }
 
