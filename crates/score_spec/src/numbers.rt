@@ -68,8 +68,8 @@ impl Value {
     }
 }
 
-/// Reads a value text: an optional sign, a mantissa of 1 to 36 digits with at most one point before, among or after them,
-/// and an optional exponent of `e` or `E`, an optional sign and 1 to 3 digits. The exact value is rounded to
+/// Reads a value text: an optional sign, a mantissa of 1 to 36 digits with at most one point before, among or after
+/// them, and an optional exponent of `e` or `E`, an optional sign and 1 to 3 digits. The exact value is rounded to
 /// ten-thousandths, halves away from zero. Takes no memory.
 pub fn read_value(text: &str) -> Result<Value, NumberFault>
     ensures value { result ≡ read_as text.now }
