@@ -9,7 +9,8 @@ pub struct ValueRow {
     pub value: Value,
 }
 
-/// A bid of a reviewer on a paper: one of the words of the settings.
+/// A bid of a reviewer on a paper: one of the words of the settings, as a `Text` and no `String`, so that contracts see
+/// its bytes.
 #[derive(Drop)]
 pub struct BidRow {
     pub paper: PaperId,

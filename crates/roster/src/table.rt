@@ -165,7 +165,8 @@ impl<R: Row> Table<R> {
         }
     }
 
-    /// The place of a key, as `place_of` gives it: by one comparison where the guess is right, else in logarithmic time.
+    /// The place of a key, as `place_of` gives it: by one comparison where the guess is right, else in logarithmic
+    /// time.
     pub fn place_from_guess(&self, guess: u32, id: &str) -> Option<u32>
         ensures place { result ≡ place_of R.key id.now self.now }
     {

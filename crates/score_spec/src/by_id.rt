@@ -113,8 +113,8 @@ impl<V> ById<V> {
         }
     }
 
-    /// Puts a value for an id, in place of the one that it had, and answers how many ids were added: in logarithmic time,
-    /// and with memory only where the id is new.
+    /// Puts a value for an id, in place of the one that it had, and answers how many ids were added: in logarithmic
+    /// time, and with memory only where the id is new.
     pub(crate) fn put(&mut self, id: String, value: V) -> Result<u32, AllocError>
     where
         V: Drop,

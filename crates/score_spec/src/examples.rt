@@ -1,5 +1,4 @@
-// Worked examples, computed over the definitions. Each function has an empty
-// body: its clauses are the examples.
+// Worked examples, computed over the definitions. Each function has an empty body: its clauses are the examples.
 
 ghost use Rattle.std.specs.Prelude.{◌≡◌, [], ◌∷◌, true, false, None, Some, pos, neg_ℤ, codes};
 ghost use Rattle.score_spec.specs.Examples.{affinities, bids, small_scores, by_affinity, by_bids, by_both};

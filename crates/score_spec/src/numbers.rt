@@ -26,8 +26,8 @@ impl Model for Value {
 /// Why a text is no value.
 #[derive(Clone, Copy, PartialEq, Eq, Debug)]
 pub enum NumberFault {
-    /// The text isn't spelled as a value. The place counts the bytes of its longest prefix with
-    /// which some value text begins.
+    /// The text isn't spelled as a value. The place counts the bytes of its longest prefix with which some value text
+    /// begins.
     BadNumber { place: u64 },
     /// The exact value is above 10 or below -10.
     OutOfRange,
@@ -68,9 +68,9 @@ impl Value {
     }
 }
 
-/// Reads a value text: an optional sign, a mantissa of 1 to 36 digits with at most one point before,
-/// among or after them, and an optional exponent of `e` or `E`, an optional sign and 1 to 3 digits.
-/// The exact value is rounded to ten-thousandths, halves away from zero. Takes no memory.
+/// Reads a value text: an optional sign, a mantissa of 1 to 36 digits with at most one point before, among or after
+/// them, and an optional exponent of `e` or `E`, an optional sign and 1 to 3 digits. The exact value is rounded to
+/// ten-thousandths, halves away from zero. Takes no memory.
 pub fn read_value(text: &str) -> Result<Value, NumberFault>
     ensures value { result ≡ read_as text.now }
     ensures grammar { MeetsGrammar text.now result }

@@ -103,8 +103,8 @@ impl<'a> PaperSource<'a> {
     }
 }
 
-/// The scores of the pairs of a paper. It looks the paper up once for each source, so that the score of a pair takes a look-up
-/// of the reviewer alone.
+/// The scores of the pairs of a paper. It looks the paper up once for each source, so that the score of a pair takes a
+/// look-up of the reviewer alone.
 #[derive(Drop)]
 pub struct PaperScores<'a> {
     spec: &'a Spec,

@@ -138,8 +138,8 @@ impl Scores {
         put_into_source(self.alloc, &mut self.values, source, paper, reviewer, value)
     }
 
-    /// Puts the word that was bid for a pair, in place of the one that it had. A word is a `Text` and no `String`, so that
-    /// the contracts of the table see its bytes.
+    /// Puts the word that was bid for a pair, in place of the one that it had. A word is a `Text` and no `String`, so
+    /// that the contracts of the table see its bytes.
     pub fn put_bid(
         &mut self,
         paper: PaperId,

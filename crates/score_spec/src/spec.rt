@@ -12,8 +12,8 @@ pub enum Kind {
     Bids,
 }
 
-/// A source of the score: a name, a kind, a weight in hundredths from -10,000 to 10,000, and the value of a
-/// pair that has none.
+/// A source of the score: a name, a kind, a weight in hundredths from -10,000 to 10,000, and the value of a pair that
+/// has none.
 #[derive(Drop)]
 pub struct SourceSpec {
     name: Text,
