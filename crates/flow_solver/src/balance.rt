@@ -6,7 +6,7 @@ ghost use Rattle.flow_solver.specs.Links.{AreLinks};
 ghost use Rattle.flow_solver.specs.State.{IsState, AreCalm};
 
 use crate::blank::blank;
-use crate::coarse::coarse_potentials;
+use crate::coarse::{coarse_potentials, greatest_cost};
 use crate::cut::{is_violated, low_nodes};
 use crate::drain::{Outcome, drain};
 use crate::guess::first_potentials;
@@ -79,6 +79,15 @@ fn balanced_anew(
     }
 }
 
+// How many nodes may be settled before the coarse solution is asked. Where nothing costs anything, that says nothing new.
+fn patience_for(net: &Network) -> Option<usize> {
+    if greatest_cost(net) == 0 {
+        None
+    } else {
+        Some(PATIENCE * (net.nodes() as usize + net.arcs().len()))
+    }
+}
+
 /// A balanced state, or marks that show that there is none. It begins at plain potentials. Where little work isn't enough
 /// there, it begins anew at those of a coarse solution: they take longer to find, and the rest of the work is less.
 pub fn balanced(
@@ -93,8 +102,7 @@ pub fn balanced(
     let _nodes = net.nodes();
     let potentials = first_potentials(alloc, net)?;
     let state = start_at(alloc, net, potentials)?;
-    let patience = PATIENCE * (net.nodes() as usize + net.arcs().len());
-    match drain_all(alloc, net, links, state, Some(patience))? {
+    match drain_all(alloc, net, links, state, patience_for(net))? {
         Balance::Even(state) => Ok(Ok(state)),
         Balance::Cut(marks) => Ok(Err(marks)),
         Balance::GivenUp => balanced_anew(alloc, net, links),

@@ -51,8 +51,8 @@ pub struct Coarse {
     active: Vec<u32>,
 }
 
-// The greatest magnitude of a cost.
-fn greatest_cost(net: &Network) -> i64 {
+/// The greatest magnitude of a cost.
+pub fn greatest_cost(net: &Network) -> i64 {
     let mut greatest = 0;
     for place in 0..arc_count(net) {
         let cost = arc_of(net, place).cost;

@@ -1,5 +1,5 @@
 -- Potentials of the solver are within the costs of the rules.
-use Rattle.std.proofs.Common.{◌≡◌, ◌≤◌, List, length, arith, inl, inr}
+use Rattle.std.proofs.Common.{◌≡◌, List, length, arith, inl, inr}
 use Rattle.std.specs.Prelude.{ℤ, pos}
 use Rattle.std.proofs.lemmas.Int.{ints}
 use Rattle.std.proofs.lemmas.Bool.{cases_lt}

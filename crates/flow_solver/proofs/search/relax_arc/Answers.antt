@@ -1,4 +1,3 @@
-use Rattle.std.proofs.Common.{◌≡◌}
 use Rattle.bounded_network.specs.Network.{arc_at}
 use Rattle.flow_solver.proofs.Relaxing.{IsRelaxed-both, start_at_end}
 use Rattle.flow_solver.proofs.search.relax_arc.Goals as goal
