@@ -1,13 +1,12 @@
 -- The rule in words on any two seats.
-use Rattle.std.proofs.Common.{◌≡◌, ℕ, ◌+◌, ◌^◌, ◌≤◌, ◌<◌, true, List, [], ◌∷◌, Option, Some, None, refl, ap, sym, subst, ◌∙◌, arith}
+use Rattle.std.proofs.Common.{◌≡◌, ℕ, true, List, Option, Some, ap, sym, subst, ◌∙◌, arith}
 use mathlib.Core.Option.{some, none}
 use mathlib.Core.Option as maybe
 use lib.ListN.{get_elem?}
-use Rattle.atomic_table.specs.Table.{State}
 use Rattle.turn_lock.specs.declared.view.View.{View}
 use Rattle.turn_lock.specs.declared.view.Stage.{Stage}
 use Rattle.turn_lock.specs.declared.view.Stage.TheVariants.{Idle, Joined, Waits, Holds, Stored}
-use Rattle.turn_lock.specs.Rule.{ticket_of, has_turn, IsDrawn, HasTurn, Stands, Kept, RuleSays}
+use Rattle.turn_lock.specs.Rule.{ticket_of, has_turn, IsDrawn, Stands, RuleSays}
 use Rattle.turn_lock.proofs.Moves.{turn_from, is_out, stands}
 
 module _ {S E : Type 0} (past : List E) (homes : List (maybe.Option (Option S))) (serving next : ℕ) (owner : ℕ → ℕ) (j : ℕ) (u : View E) where
