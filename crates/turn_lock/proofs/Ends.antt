@@ -1,15 +1,13 @@
 -- The table at the start, and what its last state says.
-use Rattle.std.proofs.Common.{◌≡◌, ◌≢◌, ℕ, zero, suc, ◌+◌, ◌^◌, ◌≤◌, ◌<◌, ◌⊎◌, inl, inr, ⊎_elim, List, [], ◌∷◌, length, Option, Some, None, refl, ap, sym, subst, ◌∙◌, arith, true, false}
-use Rattle.std.specs.List.{sum_by}
+use Rattle.std.proofs.Common.{◌≡◌, ◌≢◌, ℕ, zero, suc, ◌+◌, ◌^◌, ◌≤◌, ◌<◌, inl, ⊎_elim, List, [], ◌∷◌, length, Option, Some, refl, ap, sym, subst, ◌∙◌, arith}
 use Rattle.std.proofs.lemmas.List.Sums.{sum_by-cons}
-use mathlib.Core.Option.{some, none, some-injective, some-ne-none}
+use mathlib.Core.Option.{some, some-injective, some-ne-none}
 use mathlib.Core.List.{IsPrefix}
 use lib.ListN.{get_elem?}
 use Rattle.atomic_table.specs.Table.{State, opening, Final, Seen}
 use Rattle.turn_lock.specs.declared.view.View.{View}
-use Rattle.turn_lock.specs.declared.view.Stage.{Stage}
-use Rattle.turn_lock.specs.declared.view.Stage.TheVariants.{Idle, Joined, Waits, Holds, Stored}
-use Rattle.turn_lock.specs.Rule.{queued, has_turn, Fits, IsHome, Kept, first_view}
+use Rattle.turn_lock.specs.declared.view.Stage.TheVariants.{Idle}
+use Rattle.turn_lock.specs.Rule.{queued, Fits, IsHome, Kept, first_view}
 use Rattle.turn_lock.proofs.Prefixes.{prefix_self}
 use Rattle.turn_lock.proofs.Views.{sum_at_two, some_term}
 use Rattle.turn_lock.proofs.Moves.{queued_of, taken_of, turns_of, turn_from, drawn_from}

@@ -1,16 +1,14 @@
 -- The steps of a give keep the rule.
-use Rattle.std.proofs.Common.{◌≡◌, ◌≢◌, ℕ, suc, ◌+◌, ◌-◌, ◌%◌, ◌^◌, ◌≤◌, ◌<◌, ◌⊎◌, inl, inr, List, [], ◌∷◌, set, length, slice_index, slice_set, Option, Some, None, refl, ap, sym, subst, ◌∙◌, arith}
+use Rattle.std.proofs.Common.{◌≡◌, ◌≢◌, ℕ, ◌+◌, ◌%◌, ◌^◌, ◌≤◌, ◌<◌, inl, inr, List, [], ◌∷◌, length, slice_index, slice_set, Option, Some, None, refl, ap, sym, subst, ◌∙◌, arith}
 use mathlib.Core.Option.{some, none}
 use mathlib.Core.List.{IsPrefix}
-use lib.ListN.{get_elem?}
-use Rattle.atomic_table.specs.Table.{State, Me, keeps, gives, step, Allows}
+use Rattle.atomic_table.specs.Table.{Me, keeps, gives, step, Allows}
 use Rattle.turn_lock.specs.declared.view.View.{View}
-use Rattle.turn_lock.specs.declared.view.Stage.{Stage}
-use Rattle.turn_lock.specs.declared.view.Stage.TheVariants.{Idle, Joined, Waits, Holds, Stored}
-use Rattle.turn_lock.specs.Rule.{queued, IsDrawn, HasTurn, Fits, Kept}
+use Rattle.turn_lock.specs.declared.view.Stage.TheVariants.{Idle, Holds, Stored}
+use Rattle.turn_lock.specs.Rule.{queued, IsDrawn, Fits, Kept}
 use Rattle.turn_lock.specs.Steps.{at_stage, with_past, stores, passes}
 use Rattle.turn_lock.proofs.Prefixes.{prefix_self}
-use Rattle.turn_lock.proofs.Views.{sum_after, sum_at, each_after, set_at}
+use Rattle.turn_lock.proofs.Views.{sum_after, each_after, set_at}
 use Rattle.turn_lock.proofs.Moves.{queued_of, taken_of, turns_of, fits_after, is_out, stands, no_other}
 
 -- a ticket of another seat than the one that is served is not served yet

@@ -1,13 +1,12 @@
 -- The rule in words on any two seats.
-use Rattle.std.proofs.Common.{◌≡◌, ℕ, ◌+◌, ◌^◌, ◌≤◌, ◌<◌, true, List, [], ◌∷◌, Option, Some, None, refl, ap, sym, subst, ◌∙◌, arith}
+use Rattle.std.proofs.Common.{◌≡◌, ℕ, true, List, Option, Some, ap, sym, subst, ◌∙◌, arith}
 use mathlib.Core.Option.{some, none}
 use mathlib.Core.Option as maybe
 use lib.ListN.{get_elem?}
-use Rattle.atomic_table.specs.Table.{State}
 use Rattle.turn_lock.specs.declared.view.View.{View}
 use Rattle.turn_lock.specs.declared.view.Stage.{Stage}
 use Rattle.turn_lock.specs.declared.view.Stage.TheVariants.{Idle, Joined, Waits, Holds, Stored}
-use Rattle.turn_lock.specs.Rule.{ticket_of, has_turn, IsDrawn, HasTurn, Stands, Kept, RuleSays}
+use Rattle.turn_lock.specs.Rule.{ticket_of, has_turn, IsDrawn, Stands, RuleSays}
 use Rattle.turn_lock.proofs.Moves.{turn_from, is_out, stands}
 
 module _ {S E : Type 0} (past : List E) (homes : List (maybe.Option (Option S))) (serving next : ℕ) (owner : ℕ → ℕ) (j : ℕ) (u : View E) where
@@ -40,7 +39,7 @@ rule_says {S} {E} past_of s r =
       turn = λ j u at is. (served j u at is, is_out past_of r.past s.homes s.views (turn_from r.past s.homes r.serving r.next r.owner j u u.stage is (r.each j u at).1).1.2 r.placed);
       one_turn = λ i j v w at at' is is'. sym (drawn i v r.serving at (served i v at is)).own ∙ (drawn j w r.serving at' (served j w at' is')).own;
       slot = r.placed;
-      past_taken = λ j u ticket taken at is. (stands past_of s r j u (Holds ticket taken) at is).1;
+      past_held = λ j u ticket held at is. (stands past_of s r j u (Holds ticket held) at is).1;
       past_stored = λ j u ticket at is. (stands past_of s r j u (Stored ticket) at is).1;
       seen = λ j u at. (r.each j u at).0;
       turns = omega arith;

@@ -1,16 +1,13 @@
 -- A split and a join keep the rule, and so does the look after a join.
-use Rattle.std.proofs.Common.{◌≡◌, ◌≢◌, ℕ, suc, ◌+◌, ◌-◌, ◌/◌, ◌^◌, ◌≤◌, ◌<◌, ◌⊎◌, inl, inr, ⊎_elim, List, [], ◌∷◌, ◌++◌, set, length, slice_index, slice_set, Option, Some, refl, ap, sym, subst, ◌∙◌, arith}
+use Rattle.std.proofs.Common.{◌≡◌, ℕ, ◌^◌, ◌≤◌, inl, inr, ⊎_elim, List, [], ◌∷◌, set, slice_index, slice_set, Option, refl, ap, sym, subst, ◌∙◌, arith}
 use mathlib.Core.Option.{some, none}
-use mathlib.Core.List.{IsPrefix}
 use lib.ListN.{get_elem?}
-use Rattle.atomic_table.specs.Table.{State, Me, keeps, step, Allows, Splits, Joins}
+use Rattle.atomic_table.specs.Table.{Me, keeps, step, Allows, Splits, Joins}
 use Rattle.atomic_table.proofs.Lists.{at_longer, at_snoc, set_else}
 use Rattle.turn_lock.specs.declared.view.View.{View}
-use Rattle.turn_lock.specs.declared.view.Stage.{Stage}
-use Rattle.turn_lock.specs.declared.view.Stage.TheVariants.{Idle, Joined, Waits, Holds, Stored}
+use Rattle.turn_lock.specs.declared.view.Stage.TheVariants.{Idle, Joined}
 use Rattle.turn_lock.specs.Rule.{queued, has_turn, Stands, Fits, Kept}
 use Rattle.turn_lock.specs.Steps.{left_half, right_half, met, spent_view, settled, settles}
-use Rattle.turn_lock.specs.Passes.{longer}
 use Rattle.turn_lock.proofs.Prefixes.{prefix_meets}
 use Rattle.turn_lock.proofs.Views.{sum_after, sum_at, sum_snoc, each_after}
 use Rattle.turn_lock.proofs.Moves.{queued_of, taken_of, turns_of, placed_after, stands}

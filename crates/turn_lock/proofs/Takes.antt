@@ -1,6 +1,5 @@
 -- The steps of a take keep the rule.
-use Rattle.std.proofs.Common.{◌≡◌, ◌≢◌, ℕ, suc, ◌+◌, ◌-◌, ◌%◌, ◌^◌, ◌≤◌, ◌<◌, ◌⊎◌, inl, inr, eqb, eq-eqb, ne_eqb, List, [], ◌∷◌, set, length, slice_index, slice_set, Option, Some, refl, ap, sym, subst, ◌∙◌, arith, true, false}
-use Rattle.std.specs.List.{sum_by}
+use Rattle.std.proofs.Common.{◌≡◌, ℕ, ◌+◌, ◌%◌, ◌^◌, ◌<◌, inr, eqb, eq-eqb, ne_eqb, List, [], ◌∷◌, length, slice_index, slice_set, Option, Some, refl, ap, sym, subst, ◌∙◌, arith}
 use mathlib.Core.Logic.{dite}
 use mathlib.Core.Option.{some, none}
 use mathlib.Core.List.{IsPrefix}
@@ -9,10 +8,9 @@ use lib.ListN.{get_elem?}
 use prog.Atomic.{either}
 use Rattle.atomic_table.specs.Table.{State, Me, Act, keeps, takes, step, stepped, Allows}
 use Rattle.turn_lock.specs.declared.view.View.{View}
-use Rattle.turn_lock.specs.declared.view.Stage.{Stage}
-use Rattle.turn_lock.specs.declared.view.Stage.TheVariants.{Idle, Joined, Waits, Holds, Stored}
-use Rattle.turn_lock.specs.Rule.{queued, has_turn, IsDrawn, HasTurn, Stands, Fits, IsHome, IsOut, Kept}
-use Rattle.turn_lock.specs.Steps.{at_stage, with_ticket, draws, Finds, looks}
+use Rattle.turn_lock.specs.declared.view.Stage.TheVariants.{Idle, Waits, Holds}
+use Rattle.turn_lock.specs.Rule.{queued, has_turn, IsDrawn, Fits, Kept}
+use Rattle.turn_lock.specs.Steps.{at_stage, with_ticket, draws, looks}
 use Rattle.turn_lock.proofs.Prefixes.{prefix_self}
 use Rattle.turn_lock.proofs.Views.{sum_after, sum_at, each_after, set_at}
 use Rattle.turn_lock.proofs.Moves.{queued_of, taken_of, turns_of, fits_after, placed_after, stands, no_other, is_home, unmoved}

@@ -8,5 +8,5 @@ abbrev pub Rests : {S E : Type 0} → Stage E → List (ℕ × Option S) → Typ
 Rests Idle hand = hand ≡ []
 Rests (Joined told) hand = ⊥
 Rests (Waits ticket) hand = ⊥
-Rests (Holds ticket taken) hand = hand ≡ (0, None) ∷ []
+Rests (Holds ticket held) hand = hand ≡ (0, None) ∷ []
 Rests (Stored ticket) hand = ⊥

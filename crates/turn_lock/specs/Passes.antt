@@ -3,8 +3,8 @@ use Rattle.std.specs.Prelude.{ℕ, ◌-◌, List, length, Option, nat_lt, if◌t
 use Rattle.std.specs.List.{range_with_len}
 use Rattle.atomic_table.specs.Seated.{TableId}
 
--- A pass of the lock `lock` has seen a past. It may take `turns` more turns and took `taken`, which added entries at the places `made`.
--- While it holds the turn, `held` is the past of the value that it took.
+-- A pass of the lock `lock` has seen a past. It may take `turns` more turns and took `taken`, which added entries at the
+-- places `made`. While it holds the turn, `held` is the past of the value that it took.
 pub record PassValue (E : Type 0) : Type 0 where
   pub lock : TableId
   pub seen : List E

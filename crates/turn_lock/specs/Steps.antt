@@ -14,7 +14,7 @@ module _ {E : Type 0} where
   held_of Idle = None
   held_of (Joined told) = None
   held_of (Waits ticket) = None
-  held_of (Holds ticket taken) = Some taken
+  held_of (Holds ticket held) = Some held
   held_of (Stored ticket) = None
 
   -- what contracts see of a pass whose seat at this table has this view
@@ -30,7 +30,7 @@ module _ {E : Type 0} where
 
   -- the past that is given was seen, and its new places were made
   abbrev pub with_past : View E → ℕ → List E → List E → View E
-  with_past v ticket taken given = record { seen = given; turns = v.turns; taken = v.taken; made = v.made ++ new_places taken given; stage = Stored ticket }
+  with_past v ticket held given = record { seen = given; turns = v.turns; taken = v.taken; made = v.made ++ new_places held given; stage = Stored ticket }
 
   abbrev pub left_half : View E → View E
   left_half v = record { seen = v.seen; turns = v.turns - v.turns / 2; taken = v.taken; made = v.made; stage = v.stage }
@@ -68,7 +68,7 @@ module _ {S E : Type 0} where
 
   abbrev pub stores : (S → List E) → Step (Option S) → Seated S E → ℕ → Seated S E → Type 0
   stores past_of st m found m' =
-      (ticket : ℕ) (taken : List E) (value : S) → m.0.stage ≡ Holds ticket taken → m.1 ≡ (0, Some value) ∷ [] → m' ≡ (with_past m.0 ticket taken (past_of value), m.1)
+      (ticket : ℕ) (held : List E) (value : S) → m.0.stage ≡ Holds ticket held → m.1 ≡ (0, Some value) ∷ [] → m' ≡ (with_past m.0 ticket held (past_of value), m.1)
 
   abbrev pub passes : Step (Option S) → Seated S E → ℕ → Seated S E → Type 0
   passes st m found m' = m' ≡ (at_stage m.0 Idle, rest m.1)

@@ -3,8 +3,8 @@ ghost use Rattle.turn_lock.specs.Rule.{RuleSays};
 
 use crate::grows::Grows;
 
-/// Tickets differ and are counted, one seat at most has the turn, the slot is out while it has, there is one past with all
-/// that anyone has seen at its front, and no turn is made.
+/// Tickets differ and are counted. One seat at most has the turn, and the slot is out while it has. There is one past,
+/// with all that anyone has seen at its front. No turn is made.
 pub fn rule_says<V: Grows>()
     ensures { RuleSays V.past }
 {}

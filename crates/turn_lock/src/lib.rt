@@ -1,4 +1,5 @@
-//! A lock for a value whose past only grows. Who takes the value in turn learns that its past begins with all that it has seen.
+//! A lock for a value whose past only grows. Who takes the value in turn learns that its past begins with all that the
+//! taker has seen.
 #![tactic(auto)]
 
 mod grows;

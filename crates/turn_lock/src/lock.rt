@@ -51,7 +51,7 @@ pub struct NoRoom<V> {
 const ALL_TURNS: u64 = 1 << 62;
 
 impl<V: Grows> TurnLock<V> {
-    /// Takes turns, as many as the first pass has, from which all others are split.
+    /// Makes a lock, with the pass that has all turns. The other passes are split from it.
     pub fn new(alloc: Global, value: V) -> Result<Made<V>, NoRoom<V>>
         ensures made { IfOk result (λ m. m.pass ≡ record { lock = m.lock; seen = V.past value; turns = 2 ^ 62; taken = 0; made = []; held = None }) }
         ensures refused { IfErr result (λ e. e.value ≡ value) }

@@ -6,8 +6,8 @@ use std::alloc::Global;
 use std::sync::Wait;
 use turn_lock::{Made, TurnLock};
 
-/// The turns of the first pass, of both after a split and of one after a turn, how many entries the other then finds, the
-/// turns after a join, and how many entries a close gives.
+/// The turns of the first pass, of both after a split and of one after a turn, how many entries the other then finds,
+/// the turns after a join, and how many entries a close gives.
 pub fn turns<R: Wait>(rt: &R, alloc: Global) -> Option<[u64; 7]> {
     let Ok(Made { lock, mut pass }) = TurnLock::new(alloc, empty(alloc)) else {
         return None;

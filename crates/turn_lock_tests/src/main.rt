@@ -1,5 +1,5 @@
-//! Takes turns at a lock, in one thread and in two, and prints what came of it. With a number it only takes so many turns
-//! in two threads, for `bench/lock.sh`.
+//! Takes turns at a lock, in one thread and in two, and prints what came of it. With a number it only takes so many
+//! turns in two threads, for `bench/lock.sh`.
 #![tactic(auto)]
 
 mod cases;
@@ -23,6 +23,8 @@ fn main(rt: HostRuntime) -> anyhow::Result<()> {
     )?;
     println!(rt; "handed over {:?}", threads::handed_over(&rt, rt.alloc()))?;
     println!(rt; "waited {:?}", threads::waited(&rt, rt.alloc()))?;
+    let both = threads::both(&rt, rt.alloc(), 5, 6);
+    println!(rt; "both stand {}", both.is_some())?;
     println!(rt; "two hundred {:?}", threads::two_hundred(&rt, rt.alloc()))?;
     Ok(())
 }

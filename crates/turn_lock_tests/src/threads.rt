@@ -1,5 +1,5 @@
 //! What two threads see of their passes.
-ghost use Rattle.std.specs.Prelude.{◌≡◌, ◌<◌, None, Some};
+ghost use Rattle.std.specs.Prelude.{◌≡◌, ◌<◌, None, Some, IfSome, slice_get};
 
 use crate::log::{Log, empty, note};
 use std::alloc::Global;
@@ -117,6 +117,54 @@ pub fn waited<R: Threads + Wait + Clock + Sync>(rt: &R, alloc: Global) -> Option
         { found(rt, shared, other) },
     );
     found
+}
+
+// Adds an entry, and answers the pass with the place of the entry.
+fn note_once<R: Wait>(
+    rt: &R,
+    lock: &TurnLock<Log>,
+    mut pass: Pass<Log>,
+    entry: u64,
+) -> Option<(Pass<Log>, u64)>
+    requires lock { pass.lock ≡ lock.now }
+    requires free { pass.held ≡ None }
+    ensures pass { IfSome result (λ r. (r.0.lock ≡ pass.lock) × (r.0.held ≡ None)) }
+    ensures noted { IfSome result (λ r. slice_get r.0.seen r.1 ≡ Some entry) }
+{
+    let place = note(rt, lock, &mut pass, entry)?;
+    Some((pass, place))
+}
+
+/// Two threads add an entry each. Where both did, both stand in the list at the end, at the places that they were told.
+pub fn both<R: Threads + Wait + Sync>(
+    rt: &R,
+    alloc: Global,
+    first: u64,
+    second: u64,
+) -> Option<(Log, u64, u64)>
+    ensures { IfSome result (λ r. (slice_get r.0.entries.items r.1 ≡ Some first) × (slice_get r.0.entries.items r.2 ≡ Some second)) }
+{
+    let Ok(Made { lock, mut pass }) = TurnLock::new(alloc, empty(alloc)) else {
+        return None;
+    };
+    let other = lock.split(&mut pass);
+    let shared = &lock;
+    let (one, two) = thread::join(
+        rt,
+        move || -> Option<(Pass<Log>, u64)>
+            requires { (pass.lock ≡ shared.now) × (pass.held ≡ None) }
+            ensures { IfSome result (λ r. (r.0.lock ≡ shared.entry.now) × (r.0.held ≡ None) × (slice_get r.0.seen r.1 ≡ Some first)) }
+        { note_once(rt, shared, pass, first) },
+        move || -> Option<(Pass<Log>, u64)>
+            requires { (other.lock ≡ shared.now) × (other.held ≡ None) }
+            ensures { IfSome result (λ r. (r.0.lock ≡ shared.entry.now) × (r.0.held ≡ None) × (slice_get r.0.seen r.1 ≡ Some second)) }
+        { note_once(rt, shared, other, second) },
+    );
+    let (mut pass, one) = one?;
+    let (other, two) = two?;
+    lock.join(&mut pass, other);
+    let log = lock.close(pass)?;
+    Some((log, one, two))
 }
 
 /// Two threads add a hundred entries each: how many stand, and whether each saw growing pasts alone and has its entries

@@ -1,4 +1,4 @@
-use Rattle.std.proofs.Common.{rules, arith, refl, sym, subst, ap, ◌∙◌, ◌≡◌, ◌+◌, IfSome}
+use Rattle.std.proofs.Common.{sym, subst, ap, ◌∙◌, ◌+◌, IfSome}
 use mathlib.Core.List.{IsPrefix}
 use Rattle.turn_lock.proofs.Hands.{free_idle, not_both}
 use Rattle.turn_lock.proofs.Ends.{closes_ok}

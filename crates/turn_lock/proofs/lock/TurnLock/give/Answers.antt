@@ -1,4 +1,4 @@
-use Rattle.std.proofs.Common.{rules, arith, refl, sym, subst, ap, ◌∙◌, ◌≡◌, IsSomeAnd, IfSome, Some, Option}
+use Rattle.std.proofs.Common.{rules, sym, subst, ap, ◌∙◌, IsSomeAnd, Option}
 use mathlib.Core.List.{IsPrefix}
 use Rattle.atomic_table.specs.Table.{Me, rest}
 use Rattle.turn_lock.specs.declared.view.View.{View}

@@ -1,9 +1,8 @@
-use Rattle.std.proofs.Common.{rules, arith, refl, sym, subst, ap, ◌∙◌, ◌≡◌, ◌+◌, ◌≤◌, ◌^◌, ℕ, List, [], ◌⊎◌, Option}
+use Rattle.std.proofs.Common.{rules, arith, sym, subst, ap, ◌∙◌, ◌≡◌, ◌+◌, ◌≤◌, ◌^◌, List, ◌⊎◌, Option}
 use mathlib.Core.List.{IsPrefix}
 use Rattle.atomic_table.specs.Table.{Me}
 use Rattle.turn_lock.specs.declared.view.View.{View}
 use Rattle.turn_lock.specs.Passes.{longer}
-use Rattle.turn_lock.specs.Steps.{settled}
 use Rattle.turn_lock.specs.Hands.{Rests}
 use Rattle.turn_lock.proofs.Hands.{free_idle}
 use Rattle.turn_lock.proofs.Prefixes.{longer_one}

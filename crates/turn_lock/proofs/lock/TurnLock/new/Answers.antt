@@ -1,4 +1,4 @@
-use Rattle.std.proofs.Common.{rules, arith, refl, sym, subst, ap, ◌∙◌, ◌≡◌, List, [], ◌∷◌, ◌++◌, Option, Some}
+use Rattle.std.proofs.Common.{sym, subst, ap, ◌∙◌, List, [], ◌∷◌, ◌++◌, Option, Some}
 use Rattle.atomic_table.specs.Table.{opening}
 use Rattle.turn_lock.specs.Rule.{Kept, first_view}
 use Rattle.turn_lock.proofs.Ends.{opens_ok}

@@ -1,4 +1,4 @@
-use Rattle.std.proofs.Common.{rules, arith, sym, ap, ◌∙◌, ◌<◌}
+use Rattle.std.proofs.Common.{rules, arith, ap, ◌∙◌}
 use Rattle.turn_lock.proofs.Hands.{free_idle}
 use Rattle.turn_lock.proofs.Takes.{draws_ok}
 use Rattle.turn_lock.proofs.lock.TurnLock.take.Goals as goal
