@@ -2,9 +2,12 @@
 //!
 //! The text of rules is `LIMIT PAPERS REVIEWERS PAIRS`, then the demand of each paper, then `INSTITUTION LEAST GREATEST` for
 //! each reviewer, where `-` is no institution, then `PAPER REVIEWER SCORE FLOOR CAP` for each pair, by their places, with white
-//! space between the words; an empty line stands between two rules. The answer is `best TOTAL` where the prices show that the
-//! shares are best, `violated` where the cut shows that no lottery fits, and `unproved` where neither shows anything.
+//! space between the words; an empty line stands between two rules. The answer is `best TOTAL places COUNT` where the prices show that
+//! the shares are best, with the places that the whole assignment of the network of rounded amounts fills, `violated` where the
+//! cut shows that no lottery fits, and `unproved` where neither shows anything.
 #![tactic(auto)]
+
+ghost use Rattle.std.specs.Prelude.{◌≡◌, length};
 
 use anyhow::{Context, bail};
 use bounded_network::{Amounts, compile, cut_of, prices_of, shares_of};
@@ -20,7 +23,7 @@ use std::str::SplitAsciiWhitespace;
 
 // What the evidence shows.
 enum Shown {
-    Best { total: i128 },
+    Best { total: i128, places: u64 },
     Violated,
     Nothing,
 }
@@ -128,6 +131,25 @@ fn total_of(rules: &Rules, shares: &Shares) -> i128 {
     total
 }
 
+// The places that an assignment fills in which each pair has its share of all tickets, rounded down or up.
+fn places_of(alloc: Global, rules: &Rules, shares: &Shares) -> Result<u64, AllocError>
+    requires { length shares.now ≡ length rules.now.pairs }
+{
+    let left = rules.tickets();
+    let net = compile(alloc, rules, Sieve::All, Amounts::Rounded { shares, left })?;
+    let mut places = 0u64;
+    if let Solution::Solved {
+        flow,
+        potentials: _potentials,
+    } = solve(alloc, &net)?
+    {
+        for (_pair, amount) in rules.pairs().iter().zip(flow.as_slice()) {
+            places = places.wrapping_add(*amount);
+        }
+    }
+    Ok(places)
+}
+
 // Solves the network of the rules, and judges the evidence that it gives.
 fn show(alloc: Global, rules: &Rules) -> Result<Shown, AllocError> {
     let net = compile(alloc, rules, Sieve::All, Amounts::Tickets)?;
@@ -137,8 +159,9 @@ fn show(alloc: Global, rules: &Rules) -> Result<Shown, AllocError> {
             let prices = prices_of(alloc, rules, Sieve::All, &potentials)?;
             let total = total_of(rules, &shares);
             let best = is_best(rules, Sieve::All, total, &prices);
+            let places = places_of(alloc, rules, &shares)?;
             Ok(if best {
-                Shown::Best { total }
+                Shown::Best { total, places }
             } else {
                 Shown::Nothing
             })
@@ -162,7 +185,7 @@ fn run(rt: &HostRuntime) -> anyhow::Result<()> {
     for text in str::from_utf8(bytes.as_slice())?.split("\n\n") {
         let rules = read_rules(alloc, text)?;
         match show(alloc, &rules)? {
-            Shown::Best { total } => println!(rt; "best {total}")?,
+            Shown::Best { total, places } => println!(rt; "best {total} places {places}")?,
             Shown::Violated => println!(rt; "violated")?,
             Shown::Nothing => println!(rt; "unproved")?,
         }
