@@ -5,7 +5,7 @@
 # usage: checker/compare.sh PATH-OF-MATCHER [SPOILED]
 set -eu
 matcher=$(realpath "$1")
-spoiled=${2:-2500}
+spoiled=${2:-5000}
 cd "$(dirname "$0")/.."
 exec python3 - "$matcher" "$spoiled" crates/matcher/stdin examples/certificates/*.txt <<'COMPARE'
 import random
