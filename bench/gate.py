@@ -43,12 +43,14 @@ def kind_of(process):
     try:
         with open(f"/proc/{process}/cmdline") as text:
             words = text.read().split("\0")
+        folder = os.readlink(f"/proc/{process}/cwd")
     except OSError:
         return None
     if "--crate-name" not in words:
         return None
     crate = words[words.index("--crate-name") + 1]
-    if "check" in words:
+    # (rt tries edits, and proves the crate once more before them, on a copy)
+    if "rt-edit" in folder:
         return crate, "edits"
     return crate, "tests" if "--test" in words else "proof"
 
@@ -59,14 +61,16 @@ def watch(root, used, ended):
         for process, (_, seconds) in found.items():
             if is_below(process, root, found):
                 kind = kind_of(process)
+                # (a number may serve another process later, so the seconds of one that ended are added up)
                 if kind:
-                    used[process, kind] = seconds
+                    last, ended_before = used.get((process, kind), (0.0, 0.0))
+                    used[process, kind] = (seconds, ended_before + last if seconds < last else ended_before)
 
 
 def table(used):
     rows = defaultdict(lambda: defaultdict(float))
-    for (_, (crate, kind)), seconds in used.items():
-        rows[crate][kind] += seconds
+    for (_, (crate, kind)), (seconds, ended_before) in used.items():
+        rows[crate][kind] += seconds + ended_before
     print("| crate | proof | tests | edits | all |")
     print("|---|---|---|---|---|")
     sums = defaultdict(float)
