@@ -3,14 +3,17 @@ ghost use Rattle.std.specs.Prelude.{◌≡◌, Ok, IfOk, IfErr, IsNone};
 ghost use Rattle.flow_solver.specs.declared.balance.Balance.TheVariants.{GivenUp};
 ghost use Rattle.flow_solver.specs.Balance.{IsBalanced, AreExcluding, Balances};
 ghost use Rattle.flow_solver.specs.Links.{AreLinks};
+ghost use Rattle.flow_solver.specs.Residual.{AreResidualArcs};
 ghost use Rattle.flow_solver.specs.State.{IsState, AreCalm};
 
 use crate::blank::blank;
+use crate::blocking::block;
 use crate::coarse::{coarse_potentials, greatest_cost};
 use crate::cut::{is_violated, low_nodes};
 use crate::drain::{Outcome, drain};
 use crate::guess::first_potentials;
 use crate::links::Links;
+use crate::residual::{ResidualArcs, residual_arcs_of};
 use crate::start::start_at;
 use crate::state::State;
 use bounded_network::Network;
@@ -60,18 +63,21 @@ fn balanced_anew(
     alloc: Global,
     net: &Network,
     links: &Links,
+    residual_arcs: &ResidualArcs,
 ) -> Result<Result<State, Vec<bool>>, AllocError>
     requires links { AreLinks net.now links.now }
+    requires residual_arcs { AreResidualArcs net.now residual_arcs.now }
     ensures balanced { IfOk result (λ answer. IfOk answer (IsBalanced net.now)) }
     ensures excluding { IfOk result (λ answer. IfErr answer (λ marks. AreExcluding net.now marks.items)) }
 {
-    let potentials = coarse_potentials(alloc, net, links)?;
+    let potentials = coarse_potentials(alloc, net, residual_arcs)?;
     let marks = low_nodes(alloc, &potentials)?;
     let violated = is_violated(net, &marks);
     if violated {
         return Ok(Err(marks));
     }
-    let state = start_at(alloc, net, potentials)?;
+    let mut state = start_at(alloc, net, potentials)?;
+    block(alloc, net, residual_arcs, &mut state)?;
     match drain_all(alloc, net, links, state, None)? {
         Balance::Even(state) => Ok(Ok(state)),
         Balance::Cut(marks) => Ok(Err(marks)),
@@ -100,11 +106,13 @@ pub fn balanced(
     ensures excluding { IfOk result (λ answer. IfErr answer (λ marks. AreExcluding net.now marks.items)) }
 {
     let _nodes = net.nodes();
+    let residual_arcs = residual_arcs_of(alloc, net, links)?;
     let potentials = first_potentials(alloc, net)?;
-    let state = start_at(alloc, net, potentials)?;
+    let mut state = start_at(alloc, net, potentials)?;
+    block(alloc, net, &residual_arcs, &mut state)?;
     match drain_all(alloc, net, links, state, patience_for(net))? {
         Balance::Even(state) => Ok(Ok(state)),
         Balance::Cut(marks) => Ok(Err(marks)),
-        Balance::GivenUp => balanced_anew(alloc, net, links),
+        Balance::GivenUp => balanced_anew(alloc, net, links, &residual_arcs),
     }
 }

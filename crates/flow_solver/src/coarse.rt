@@ -7,14 +7,12 @@
 ghost use Rattle.std.specs.Prelude.{◌≡◌, ◌<◌, length, ℕ, IfOk, OnOk, All};
 ghost use Rattle.bounded_network.specs.Network.{potential_at};
 ghost use Rattle.flow_solver.specs.Coarse.{IsCoarse};
-ghost use Rattle.flow_solver.specs.Links.{AreLinks};
 ghost use Rattle.flow_solver.specs.Residual.{IsResidualArc, AreResidualArcs};
 ghost use Rattle.flow_solver.specs.State.{IsWithin};
 
 use crate::guess::first_potentials;
-use crate::links::Links;
-use crate::residual::{ResidualArc, ResidualArcs, residual_arc_of, residual_arcs_of};
-use crate::search::width_of;
+use crate::residual::{ResidualArc, ResidualArcs, residual_arc_of};
+use crate::search::amount_of;
 use crate::start::start_at;
 use crate::step::{arc_count, arc_of};
 use bounded_network::{MAX_COST, Network};
@@ -136,11 +134,6 @@ fn less_by(left: Left, forward: bool, amount: u64) -> Left {
             back: left.back.saturating_sub(amount),
         }
     }
-}
-
-// An excess as an amount, 0 where there is none.
-fn amount_of(excess: i128) -> u64 {
-    if excess > 0 { width_of(excess) } else { 0 }
 }
 
 // Whether a step at the cost between the potentials has a negative reduced cost.
@@ -395,18 +388,17 @@ fn discharge_all(
 pub fn coarse_potentials(
     alloc: Global,
     net: &Network,
-    links: &Links,
+    residual_arcs: &ResidualArcs,
 ) -> Result<Vec<i64>, AllocError>
-    requires links { AreLinks net.now links.now }
+    requires residual_arcs { AreResidualArcs net.now residual_arcs.now }
     ensures long { IfOk result (λ potentials. length potentials.items ≡ net.now.nodes) }
     ensures small { IfOk result (λ potentials. (v : ℕ) → IsWithin 8000000000 (potential_at potentials.items v)) }
 {
     let mut potentials = first_potentials(alloc, net)?;
     let mut epsilon = greatest_cost(net).min(GREATEST_EPSILON);
-    let residual_arcs = residual_arcs_of(alloc, net, links)?;
     for _phase in 0..PHASES {
-        let mut coarse = phase_at(alloc, net, &residual_arcs, potentials, epsilon.max(1))?;
-        discharge_all(net, &residual_arcs, &mut coarse)?;
+        let mut coarse = phase_at(alloc, net, residual_arcs, potentials, epsilon.max(1))?;
+        discharge_all(net, residual_arcs, &mut coarse)?;
         let ended = coarse.active.is_empty();
         potentials = coarse.potentials;
         if !ended || epsilon <= 1 {

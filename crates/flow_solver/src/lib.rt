@@ -14,12 +14,15 @@
 
 mod balance;
 mod blank;
+mod blocking;
 mod coarse;
 mod cut;
 mod drain;
 mod guess;
+mod levels;
 mod links;
 mod path;
+mod push;
 mod queue;
 mod residual;
 mod search;
