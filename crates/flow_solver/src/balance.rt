@@ -8,12 +8,13 @@ ghost use Rattle.flow_solver.specs.State.{IsState, AreCalm};
 
 use crate::blank::blank;
 use crate::blocking::block;
-use crate::coarse::{coarse_potentials, greatest_cost};
+use crate::coarse::greatest_cost;
 use crate::cut::{is_violated, low_nodes};
 use crate::drain::{Outcome, drain};
 use crate::guess::first_potentials;
 use crate::links::Links;
 use crate::residual::{ResidualArcs, residual_arcs_of};
+use crate::scaling::coarse_potentials;
 use crate::start::start_at;
 use crate::state::State;
 use bounded_network::Network;
