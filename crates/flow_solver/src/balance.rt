@@ -20,8 +20,8 @@ use crate::state::State;
 use bounded_network::Network;
 use std::alloc::{AllocError, Global};
 
-// How many nodes may be settled for each node and arc before a network counts as hard.
-const PATIENCE: usize = 2;
+// How many residual arcs searches may go over for each arc before a network counts as hard.
+const PATIENCE: usize = 40;
 
 /// What came of all excesses.
 #[derive(Drop)]
@@ -39,18 +39,28 @@ fn drain_all(
     alloc: Global,
     net: &Network,
     links: &Links,
+    residual_arcs: &ResidualArcs,
     mut state: State,
     mut patience: Option<usize>,
 ) -> Result<Balance, AllocError>
     requires kept { IsState net.now state.flow.items state.excess.items state.potentials.items }
     requires calm { AreCalm net.now state.excess.items state.potentials.items }
     requires links { AreLinks net.now links.now }
+    requires residual_arcs { AreResidualArcs net.now residual_arcs.now }
     ensures balances { IfOk result (Balances net.now) }
     ensures patient { IsNone patience → ¬ (result ≡ Ok GivenUp) }
 {
     let mut search = blank(alloc, net)?;
     for source in 0..net.nodes() {
-        match drain(net, links, &mut state, &mut search, source, &mut patience)? {
+        match drain(
+            net,
+            links,
+            residual_arcs,
+            &mut state,
+            &mut search,
+            source,
+            &mut patience,
+        )? {
             Outcome::Drained => {}
             Outcome::Stuck => return Ok(Balance::Cut(search.settled)),
             Outcome::GivenUp => return Ok(Balance::GivenUp),
@@ -79,19 +89,19 @@ fn balanced_anew(
     }
     let mut state = start_at(alloc, net, potentials)?;
     block(alloc, net, residual_arcs, &mut state)?;
-    match drain_all(alloc, net, links, state, None)? {
+    match drain_all(alloc, net, links, residual_arcs, state, None)? {
         Balance::Even(state) => Ok(Ok(state)),
         Balance::Cut(marks) => Ok(Err(marks)),
         Balance::GivenUp => unreachable!(),
     }
 }
 
-// How many nodes may be settled before the coarse solution is asked. Where nothing costs anything, that says nothing new.
+// How many residual arcs searches may go over before the coarse solution is asked. Where nothing costs anything, that says nothing new.
 fn patience_for(net: &Network) -> Option<usize> {
     if greatest_cost(net) == 0 {
         None
     } else {
-        Some(PATIENCE * (net.nodes() as usize + net.arcs().len()))
+        Some(PATIENCE * net.arcs().len())
     }
 }
 
@@ -111,7 +121,7 @@ pub fn balanced(
     let potentials = first_potentials(alloc, net)?;
     let mut state = start_at(alloc, net, potentials)?;
     block(alloc, net, &residual_arcs, &mut state)?;
-    match drain_all(alloc, net, links, state, patience_for(net))? {
+    match drain_all(alloc, net, links, &residual_arcs, state, patience_for(net))? {
         Balance::Even(state) => Ok(Ok(state)),
         Balance::Cut(marks) => Ok(Err(marks)),
         Balance::GivenUp => balanced_anew(alloc, net, links, &residual_arcs),

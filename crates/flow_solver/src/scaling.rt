@@ -11,30 +11,22 @@ ghost use Rattle.flow_solver.specs.State.{IsWithin};
 use crate::coarse::{Coarse, discharge, greatest_cost, phase_at};
 use crate::global_update::update_globally;
 use crate::guess::first_potentials;
-use crate::residual::ResidualArcs;
+use crate::residual::{ResidualArcs, degree_of};
 use bounded_network::Network;
 use std::alloc::{AllocError, Global};
 use std::mem;
 
 // How many phases there are.
-const PHASES: u32 = 5;
+const PHASES: u32 = 7;
 
 // How far epsilon shrinks from phase to phase.
-const SHRINKING: i64 = 8;
+const SHRINKING: i64 = 5;
 
 // What part of the greatest cost the first epsilon is.
 const COARSEST: i64 = 16;
 
 // The effort that a phase may take for each node and arc. Where there is no circulation, it would never end by itself.
 const EFFORT: usize = 1024;
-
-// The number of residual arcs at the node.
-fn degree_of(net: &Network, residual_arcs: &ResidualArcs, node: u32) -> usize
-    requires residual_arcs { AreResidualArcs net.now residual_arcs.now }
-    requires node_in { node < net.now.nodes }
-{
-    residual_arcs.starts[node as usize + 1].saturating_sub(residual_arcs.starts[node as usize])
-}
 
 // Discharges the nodes, and says what effort that took: for each as much as it has residual arcs, and one more.
 fn discharge_each(
