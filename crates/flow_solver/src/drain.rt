@@ -16,13 +16,13 @@ use crate::state::State;
 use bounded_network::Network;
 use std::alloc::AllocError;
 
-// The number of residual arcs at the nodes of the tree.
+// The number of residual arcs at the nodes of the tree but the last, whose arcs the search doesn't go over.
 fn arcs_at(net: &Network, residual_arcs: &ResidualArcs, tree: &[Reach]) -> usize
     requires residual_arcs { AreResidualArcs net.now residual_arcs.now }
     requires nodes { (i : ℕ) → i < length tree.now → (reach_at tree.now i).node < net.now.nodes }
 {
     let mut count: usize = 0;
-    for place in 0..tree.len() {
+    for place in 0..tree.len().saturating_sub(1) {
         count = count.saturating_add(degree_of(net, residual_arcs, tree[place].node));
     }
     count
