@@ -12,6 +12,7 @@ use crate::coarse::{Coarse, discharge, greatest_cost, phase_at};
 use crate::global_update::update_globally;
 use crate::guess::first_potentials;
 use crate::residual::{ResidualArcs, degree_of};
+use crate::unit::{round_all, unit_of};
 use bounded_network::Network;
 use std::alloc::{AllocError, Global};
 use std::mem;
@@ -24,6 +25,9 @@ const SHRINKING: i64 = 5;
 
 // What part of the greatest cost the first epsilon is.
 const COARSEST: i64 = 16;
+
+// What part of the unit of the costs epsilon needs not be less than.
+const FINENESS: u64 = 8;
 
 // The effort that a phase may take for each node and arc. Where there is no circulation, it would never end by itself.
 const EFFORT: usize = 1024;
@@ -108,11 +112,12 @@ fn discharge_all(
     Ok(())
 }
 
-/// Potentials of at most the greatest cost, near those of a best circulation where there is one.
-pub fn coarse_potentials(
+// The potentials after all phases. The last is one with an epsilon of at most the finest.
+fn all_phases(
     alloc: Global,
     net: &Network,
     residual_arcs: &ResidualArcs,
+    finest: u64,
 ) -> Result<Vec<i64>, AllocError>
     requires residual_arcs { AreResidualArcs net.now residual_arcs.now }
     ensures long { IfOk result (λ potentials. length potentials.items ≡ net.now.nodes) }
@@ -125,10 +130,27 @@ pub fn coarse_potentials(
         discharge_all(alloc, net, residual_arcs, &mut coarse)?;
         let ended = coarse.active.is_empty();
         potentials = coarse.potentials;
-        if !ended || epsilon <= 1 {
+        if !ended || epsilon <= 1 || epsilon as u64 <= finest {
             return Ok(potentials);
         }
         epsilon /= SHRINKING;
     }
+    Ok(potentials)
+}
+
+/// Potentials of at most the greatest cost, near those of a best circulation where there is one. They are rounded to the unit
+/// of the costs, so that where few costs differ many steps have reduced cost 0.
+pub fn coarse_potentials(
+    alloc: Global,
+    net: &Network,
+    residual_arcs: &ResidualArcs,
+) -> Result<Vec<i64>, AllocError>
+    requires residual_arcs { AreResidualArcs net.now residual_arcs.now }
+    ensures long { IfOk result (λ potentials. length potentials.items ≡ net.now.nodes) }
+    ensures small { IfOk result (λ potentials. (v : ℕ) → IsWithin 8000000000 (potential_at potentials.items v)) }
+{
+    let unit = unit_of(net);
+    let mut potentials = all_phases(alloc, net, residual_arcs, unit / FINENESS)?;
+    round_all(&mut potentials, unit);
     Ok(potentials)
 }

@@ -1,9 +1,9 @@
 use Rattle.std.proofs.Common.{◌≡◌, ◌<◌, arith, length, ap, ◌∙◌, refl}
-use Rattle.std.specs.Prelude.{pos, ◌+ℤ◌, ◌-ℤ◌}
+use Rattle.std.specs.Prelude.{pos}
 use Rattle.std.proofs.lemmas.Int.{ints}
 use Rattle.std.proofs.lemmas.List.{get_or_read}
 use Rattle.bounded_network.specs.Network.{arc_at, potential_at}
-use Rattle.flow_solver.specs.Step.{start_of, end_of, step_reduced}
+use Rattle.flow_solver.specs.Step.{start_of, end_of}
 use Rattle.flow_solver.proofs.Bounds.{potential_within, step_reduced-parts, end_in, start_in}
 use Rattle.flow_solver.proofs.push.is_tight.Goals as goal
 use Rattle.flow_solver.proofs.push.is_tight.Goals.{After-cost}
