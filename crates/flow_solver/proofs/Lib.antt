@@ -13,3 +13,4 @@ pub mod Shifts
 pub mod Starts
 pub mod States
 pub mod Paths
+pub mod Pushes

@@ -1,4 +1,5 @@
 pub mod Balance
+pub mod Blocking
 pub mod Coarse
 pub mod Links
 pub mod Queue

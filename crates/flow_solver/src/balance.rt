@@ -3,21 +3,25 @@ ghost use Rattle.std.specs.Prelude.{◌≡◌, Ok, IfOk, IfErr, IsNone};
 ghost use Rattle.flow_solver.specs.declared.balance.Balance.TheVariants.{GivenUp};
 ghost use Rattle.flow_solver.specs.Balance.{IsBalanced, AreExcluding, Balances};
 ghost use Rattle.flow_solver.specs.Links.{AreLinks};
+ghost use Rattle.flow_solver.specs.Residual.{AreResidualArcs};
 ghost use Rattle.flow_solver.specs.State.{IsState, AreCalm};
 
 use crate::blank::blank;
-use crate::coarse::{coarse_potentials, greatest_cost};
+use crate::blocking::block;
+use crate::coarse::greatest_cost;
 use crate::cut::{is_violated, low_nodes};
 use crate::drain::{Outcome, drain};
 use crate::guess::first_potentials;
 use crate::links::Links;
+use crate::residual::{ResidualArcs, residual_arcs_of};
+use crate::scaling::coarse_potentials;
 use crate::start::start_at;
 use crate::state::State;
 use bounded_network::Network;
 use std::alloc::{AllocError, Global};
 
-// How many nodes may be settled for each node and arc before a network counts as hard.
-const PATIENCE: usize = 2;
+// How many residual arcs searches may go over for each arc before a network counts as hard.
+const PATIENCE: usize = 40;
 
 /// What came of all excesses.
 #[derive(Drop)]
@@ -35,18 +39,28 @@ fn drain_all(
     alloc: Global,
     net: &Network,
     links: &Links,
+    residual_arcs: &ResidualArcs,
     mut state: State,
     mut patience: Option<usize>,
 ) -> Result<Balance, AllocError>
     requires kept { IsState net.now state.flow.items state.excess.items state.potentials.items }
     requires calm { AreCalm net.now state.excess.items state.potentials.items }
     requires links { AreLinks net.now links.now }
+    requires residual_arcs { AreResidualArcs net.now residual_arcs.now }
     ensures balances { IfOk result (Balances net.now) }
     ensures patient { IsNone patience → ¬ (result ≡ Ok GivenUp) }
 {
     let mut search = blank(alloc, net)?;
     for source in 0..net.nodes() {
-        match drain(net, links, &mut state, &mut search, source, &mut patience)? {
+        match drain(
+            net,
+            links,
+            residual_arcs,
+            &mut state,
+            &mut search,
+            source,
+            &mut patience,
+        )? {
             Outcome::Drained => {}
             Outcome::Stuck => return Ok(Balance::Cut(search.settled)),
             Outcome::GivenUp => return Ok(Balance::GivenUp),
@@ -60,31 +74,34 @@ fn balanced_anew(
     alloc: Global,
     net: &Network,
     links: &Links,
+    residual_arcs: &ResidualArcs,
 ) -> Result<Result<State, Vec<bool>>, AllocError>
     requires links { AreLinks net.now links.now }
+    requires residual_arcs { AreResidualArcs net.now residual_arcs.now }
     ensures balanced { IfOk result (λ answer. IfOk answer (IsBalanced net.now)) }
     ensures excluding { IfOk result (λ answer. IfErr answer (λ marks. AreExcluding net.now marks.items)) }
 {
-    let potentials = coarse_potentials(alloc, net, links)?;
+    let potentials = coarse_potentials(alloc, net, residual_arcs)?;
     let marks = low_nodes(alloc, &potentials)?;
     let violated = is_violated(net, &marks);
     if violated {
         return Ok(Err(marks));
     }
-    let state = start_at(alloc, net, potentials)?;
-    match drain_all(alloc, net, links, state, None)? {
+    let mut state = start_at(alloc, net, potentials)?;
+    block(alloc, net, residual_arcs, &mut state)?;
+    match drain_all(alloc, net, links, residual_arcs, state, None)? {
         Balance::Even(state) => Ok(Ok(state)),
         Balance::Cut(marks) => Ok(Err(marks)),
         Balance::GivenUp => unreachable!(),
     }
 }
 
-// How many nodes may be settled before the coarse solution is asked. Where nothing costs anything, that says nothing new.
+// How many residual arcs searches may go over before the coarse solution is asked. Where nothing costs anything, that says nothing new.
 fn patience_for(net: &Network) -> Option<usize> {
     if greatest_cost(net) == 0 {
         None
     } else {
-        Some(PATIENCE * (net.nodes() as usize + net.arcs().len()))
+        Some(PATIENCE * net.arcs().len())
     }
 }
 
@@ -100,11 +117,13 @@ pub fn balanced(
     ensures excluding { IfOk result (λ answer. IfErr answer (λ marks. AreExcluding net.now marks.items)) }
 {
     let _nodes = net.nodes();
+    let residual_arcs = residual_arcs_of(alloc, net, links)?;
     let potentials = first_potentials(alloc, net)?;
-    let state = start_at(alloc, net, potentials)?;
-    match drain_all(alloc, net, links, state, patience_for(net))? {
+    let mut state = start_at(alloc, net, potentials)?;
+    block(alloc, net, &residual_arcs, &mut state)?;
+    match drain_all(alloc, net, links, &residual_arcs, state, patience_for(net))? {
         Balance::Even(state) => Ok(Ok(state)),
         Balance::Cut(marks) => Ok(Err(marks)),
-        Balance::GivenUp => balanced_anew(alloc, net, links),
+        Balance::GivenUp => balanced_anew(alloc, net, links, &residual_arcs),
     }
 }

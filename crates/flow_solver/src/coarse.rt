@@ -1,36 +1,20 @@
-// Potentials near those of a best circulation, for networks where the paths from the first potentials would be long.
+// A phase of cost scaling: its steps.
 //
-// Cost scaling (Goldberg and Tarjan 1990): excesses are pushed over residual arcs with a negative reduced cost, and a node
-// that has no such arc is relabelled, to a potential lower by epsilon than it must be to have one. Epsilon shrinks from
-// phase to phase. Only the potentials are kept, and any are right to start from, so that nothing is proved of the amounts:
-// those that would be too large stop at their bounds.
+// Excesses are pushed over residual arcs with a negative reduced cost, and a node that has no such arc is relabelled, to a
+// potential lower by epsilon than it must be to have one. Nothing is proved of the amounts: those that would be too large
+// stop at their bounds.
 ghost use Rattle.std.specs.Prelude.{◌≡◌, ◌<◌, length, ℕ, IfOk, OnOk, All};
 ghost use Rattle.bounded_network.specs.Network.{potential_at};
 ghost use Rattle.flow_solver.specs.Coarse.{IsCoarse};
-ghost use Rattle.flow_solver.specs.Links.{AreLinks};
 ghost use Rattle.flow_solver.specs.Residual.{IsResidualArc, AreResidualArcs};
 ghost use Rattle.flow_solver.specs.State.{IsWithin};
 
-use crate::guess::first_potentials;
-use crate::links::Links;
-use crate::residual::{ResidualArc, ResidualArcs, residual_arc_of, residual_arcs_of};
-use crate::search::width_of;
+use crate::residual::{ResidualArc, ResidualArcs, residual_arc_of};
+use crate::search::amount_of;
 use crate::start::start_at;
 use crate::step::{arc_count, arc_of};
 use bounded_network::{MAX_COST, Network};
 use std::alloc::{AllocError, Global};
-
-// How many phases there are.
-const PHASES: u32 = 7;
-
-// How far epsilon shrinks from phase to phase.
-const SHRINKING: i64 = 8;
-
-// The greatest epsilon: above it, nodes could be relabelled to the least potential though there is a circulation.
-const GREATEST_EPSILON: i64 = MAX_COST / 16;
-
-// The effort that a phase may take for each node and arc. Where there is no circulation, it would never end by itself.
-const EFFORT: usize = 1024;
 
 // How much more an arc takes forward, and how much back.
 #[derive(Clone, Copy)]
@@ -40,15 +24,16 @@ pub struct Left {
 }
 
 /// What is left for each arc, the excesses and potentials of a phase, for each node the next of its residual arcs to push
-/// over, and the nodes that have an excess.
+/// over, the nodes that have an excess, and how many were relabelled since the last global update.
 #[derive(Drop)]
 pub struct Coarse {
-    epsilon: i64,
-    left: Vec<Left>,
-    excess: Vec<i128>,
-    potentials: Vec<i64>,
-    next: Vec<usize>,
-    active: Vec<u32>,
+    pub epsilon: i64,
+    pub left: Vec<Left>,
+    pub excess: Vec<i128>,
+    pub potentials: Vec<i64>,
+    pub next: Vec<usize>,
+    pub active: Vec<u32>,
+    pub relabels: usize,
 }
 
 /// The greatest magnitude of a cost.
@@ -91,8 +76,8 @@ fn lefts_of(alloc: Global, net: &Network, flow: &[u64]) -> Result<Vec<Left>, All
     Ok(left)
 }
 
-// A phase at its start.
-fn phase_at(
+/// A phase at its start.
+pub fn phase_at(
     alloc: Global,
     net: &Network,
     residual_arcs: &ResidualArcs,
@@ -115,11 +100,12 @@ fn phase_at(
         potentials: state.potentials,
         next,
         active,
+        relabels: 0,
     })
 }
 
-// How much more the arc takes forward, or back.
-fn room_in(left: Left, forward: bool) -> u64 {
+/// How much more the arc takes forward, or back.
+pub fn room_in(left: Left, forward: bool) -> u64 {
     if forward { left.ahead } else { left.back }
 }
 
@@ -136,11 +122,6 @@ fn less_by(left: Left, forward: bool, amount: u64) -> Left {
             back: left.back.saturating_sub(amount),
         }
     }
-}
-
-// An excess as an amount, 0 where there is none.
-fn amount_of(excess: i128) -> u64 {
-    if excess > 0 { width_of(excess) } else { 0 }
 }
 
 // Whether a step at the cost between the potentials has a negative reduced cost.
@@ -280,8 +261,8 @@ fn best_of(net: &Network, residual_arcs: &ResidualArcs, coarse: &Coarse, node: u
     best
 }
 
-// The best potential less epsilon, within the greatest cost.
-fn relabelled(best: i64, epsilon: i64) -> i64
+/// The best potential less epsilon, within the greatest cost.
+pub fn relabelled(best: i64, epsilon: i64) -> i64
     ensures { IsWithin 8000000000 result }
 {
     let wanted = best.saturating_sub(epsilon);
@@ -294,8 +275,8 @@ fn relabelled(best: i64, epsilon: i64) -> i64
     }
 }
 
-// Gives the node the potential.
-fn set_potential(net: &Network, coarse: &mut Coarse, node: u32, value: i64)
+/// Gives the node the potential.
+pub fn set_potential(net: &Network, coarse: &mut Coarse, node: u32, value: i64)
     requires coarse { IsCoarse net.now coarse.old }
     requires node_in { node < net.now.nodes }
     requires small { IsWithin 8000000000 value }
@@ -337,13 +318,14 @@ fn relabel(
     let value = relabelled(best_of(net, residual_arcs, coarse, node), coarse.epsilon);
     if value < coarse.potentials[node as usize] {
         set_potential(net, coarse, node, value);
+        coarse.relabels = coarse.relabels.saturating_add(1);
         activate(net, residual_arcs, coarse, node)?;
     }
     Ok(())
 }
 
-// Discharges the node: pushes its excess, and relabels it where some is left.
-fn discharge(
+/// Discharges the node: pushes its excess, and relabels it where some is left.
+pub fn discharge(
     net: &Network,
     residual_arcs: &ResidualArcs,
     coarse: &mut Coarse,
@@ -359,60 +341,4 @@ fn discharge(
         relabel(net, residual_arcs, coarse, node)?;
     }
     Ok(())
-}
-
-// The number of residual arcs at the node.
-fn degree_of(net: &Network, residual_arcs: &ResidualArcs, node: u32) -> usize
-    requires residual_arcs { AreResidualArcs net.now residual_arcs.now }
-    requires node_in { node < net.now.nodes }
-{
-    residual_arcs.starts[node as usize + 1].saturating_sub(residual_arcs.starts[node as usize])
-}
-
-// Discharges the active nodes, the latest first, until there are none or the effort is spent. One costs as much as the
-// node has residual arcs, and one more.
-fn discharge_all(
-    net: &Network,
-    residual_arcs: &ResidualArcs,
-    coarse: &mut Coarse,
-) -> Result<(), AllocError>
-    requires coarse { IsCoarse net.now coarse.old }
-    requires residual_arcs { AreResidualArcs net.now residual_arcs.now }
-    ensures { OnOk result (IsCoarse net.now coarse.new) }
-{
-    let mut effort = EFFORT * (net.nodes() as usize + net.arcs().len());
-    while effort > 0 {
-        let Some(node) = coarse.active.pop() else {
-            return Ok(());
-        };
-        discharge(net, residual_arcs, coarse, node)?;
-        effort = (effort - 1).saturating_sub(degree_of(net, residual_arcs, node));
-    }
-    Ok(())
-}
-
-/// Potentials of at most the greatest cost, near those of a best circulation where there is one.
-pub fn coarse_potentials(
-    alloc: Global,
-    net: &Network,
-    links: &Links,
-) -> Result<Vec<i64>, AllocError>
-    requires links { AreLinks net.now links.now }
-    ensures long { IfOk result (λ potentials. length potentials.items ≡ net.now.nodes) }
-    ensures small { IfOk result (λ potentials. (v : ℕ) → IsWithin 8000000000 (potential_at potentials.items v)) }
-{
-    let mut potentials = first_potentials(alloc, net)?;
-    let mut epsilon = greatest_cost(net).min(GREATEST_EPSILON);
-    let residual_arcs = residual_arcs_of(alloc, net, links)?;
-    for _phase in 0..PHASES {
-        let mut coarse = phase_at(alloc, net, &residual_arcs, potentials, epsilon.max(1))?;
-        discharge_all(net, &residual_arcs, &mut coarse)?;
-        let ended = coarse.active.is_empty();
-        potentials = coarse.potentials;
-        if !ended || epsilon <= 1 {
-            return Ok(potentials);
-        }
-        epsilon /= SHRINKING;
-    }
-    Ok(potentials)
 }

@@ -2,23 +2,38 @@
 ghost use Rattle.std.specs.Prelude.{◌≡◌, ◌<◌, length, ℕ, ℤ, false, pos, ◌≤ℤ◌, ◌<ℤ◌, Ok, IfOk, IfSome, IfNone, IsNone};
 ghost use Rattle.bounded_network.specs.Network.{AreViolated};
 ghost use Rattle.flow_solver.specs.declared.drain.Outcome.TheVariants.{Drained, Stuck, GivenUp};
-ghost use Rattle.flow_solver.specs.Search.{IsBlank};
+ghost use Rattle.flow_solver.specs.Residual.{AreResidualArcs};
+ghost use Rattle.flow_solver.specs.Search.{IsBlank, reach_at};
 ghost use Rattle.flow_solver.specs.Links.{AreLinks};
 ghost use Rattle.flow_solver.specs.State.{IsState, AreCalm, excess_at};
 
 use crate::blank::{clear, set_out};
 use crate::links::Links;
 use crate::path::augment;
-use crate::search::{Search, run};
+use crate::residual::{ResidualArcs, degree_of};
+use crate::search::{Reach, Search, run};
 use crate::state::State;
 use bounded_network::Network;
 use std::alloc::AllocError;
 
-/// Carries as much as one path takes from the source to the nearest node with a deficit, and says how many nodes the
-/// search settled. Nothing is carried where no such node is reached: the settled nodes then can't get rid of the excess.
+// The number of residual arcs at the nodes of the tree but the last, whose arcs the search doesn't go over.
+fn arcs_at(net: &Network, residual_arcs: &ResidualArcs, tree: &[Reach]) -> usize
+    requires residual_arcs { AreResidualArcs net.now residual_arcs.now }
+    requires nodes { (i : ℕ) → i < length tree.now → (reach_at tree.now i).node < net.now.nodes }
+{
+    let mut count: usize = 0;
+    for place in 0..tree.len().saturating_sub(1) {
+        count = count.saturating_add(degree_of(net, residual_arcs, tree[place].node));
+    }
+    count
+}
+
+/// Carries as much as one path takes from the source to the nearest node with a deficit, and says how many residual arcs
+/// the search went over. Nothing is carried where no such node is reached: the settled nodes then can't get rid of the excess.
 pub fn carry_once(
     net: &Network,
     links: &Links,
+    residual_arcs: &ResidualArcs,
     state: &mut State,
     search: &mut Search,
     source: u32,
@@ -26,17 +41,18 @@ pub fn carry_once(
     requires kept { IsState net.now state.old.flow.items state.old.excess.items state.old.potentials.items }
     requires calm { AreCalm net.now state.old.excess.items state.old.potentials.items }
     requires links { AreLinks net.now links.now }
+    requires residual_arcs { AreResidualArcs net.now residual_arcs.now }
     requires blank { IsBlank net.now search.old }
     requires source_in { source < net.now.nodes }
     requires rich { pos 0 <ℤ excess_at state.old.excess.items source }
     ensures kept { IsState net.now state.new.flow.items state.new.excess.items state.new.potentials.items }
     ensures calm { AreCalm net.now state.new.excess.items state.new.potentials.items }
     ensures others { (v : ℕ) → excess_at state.old.excess.items v ≤ℤ pos 0 → excess_at state.new.excess.items v ≤ℤ pos 0 }
-    ensures blank { IfOk result (λ settled. IfSome settled (λ count. IsBlank net.now search.new)) }
-    ensures decreases { IfOk result (λ settled. IfSome settled (λ count. excess_at state.new.excess.items source <ℤ excess_at state.old.excess.items source)) }
-    ensures rich { IfOk result (λ settled. IfSome settled (λ count. pos 0 ≤ℤ excess_at state.new.excess.items source)) }
-    ensures violated { IfOk result (λ settled. IfNone settled (AreViolated net.now search.new.settled.items)) }
-    ensures long { IfOk result (λ settled. IfNone settled (length search.new.settled.items ≡ net.now.nodes)) }
+    ensures blank { IfOk result (λ scanned. IfSome scanned (λ count. IsBlank net.now search.new)) }
+    ensures decreases { IfOk result (λ scanned. IfSome scanned (λ count. excess_at state.new.excess.items source <ℤ excess_at state.old.excess.items source)) }
+    ensures rich { IfOk result (λ scanned. IfSome scanned (λ count. pos 0 ≤ℤ excess_at state.new.excess.items source)) }
+    ensures violated { IfOk result (λ scanned. IfNone scanned (AreViolated net.now search.new.settled.items)) }
+    ensures long { IfOk result (λ scanned. IfNone scanned (length search.new.settled.items ≡ net.now.nodes)) }
 {
     let _nodes = net.nodes();
     set_out(net, state, search, source)?;
@@ -44,10 +60,10 @@ pub fn carry_once(
     if !found {
         return Ok(None);
     }
-    let settled = search.tree.len();
+    let scanned = arcs_at(net, residual_arcs, &search.tree);
     augment(net, state, search);
     clear(net, search);
-    Ok(Some(settled))
+    Ok(Some(scanned))
 }
 
 /// What came of an excess.
@@ -61,24 +77,25 @@ pub enum Outcome {
     GivenUp,
 }
 
-// Takes what was settled from the patience, and says whether that is at its end.
-fn is_spent(patience: &mut Option<usize>, settled: usize) -> bool
+// Takes what was gone over from the patience, and says whether that is at its end.
+fn is_spent(patience: &mut Option<usize>, scanned: usize) -> bool
     ensures never { IsNone patience.old → (result ≡ false) × IsNone patience.new }
 {
     match patience {
         Some(left) => {
-            *left = left.saturating_sub(settled);
+            *left = left.saturating_sub(scanned);
             *left == 0
         }
         None => false,
     }
 }
 
-/// Carries away what the source has too much, for as long as the patience lasts: so many nodes may be settled, or any number
-/// where it is `None`.
+/// Carries away what the source has too much, for as long as the patience lasts: so many residual arcs may be gone over, or
+/// any number where it is `None`.
 pub fn drain(
     net: &Network,
     links: &Links,
+    residual_arcs: &ResidualArcs,
     state: &mut State,
     search: &mut Search,
     source: u32,
@@ -87,6 +104,7 @@ pub fn drain(
     requires kept { IsState net.now state.old.flow.items state.old.excess.items state.old.potentials.items }
     requires calm { AreCalm net.now state.old.excess.items state.old.potentials.items }
     requires links { AreLinks net.now links.now }
+    requires residual_arcs { AreResidualArcs net.now residual_arcs.now }
     requires blank { IsBlank net.now search.old }
     requires source_in { source < net.now.nodes }
     ensures kept { IsState net.now state.new.flow.items state.new.excess.items state.new.potentials.items }
@@ -100,10 +118,10 @@ pub fn drain(
 {
     let _nodes = net.nodes();
     'draining: while state.excess[source as usize] > 0 {
-        let Some(settled) = carry_once(net, links, state, search, source)? else {
+        let Some(scanned) = carry_once(net, links, residual_arcs, state, search, source)? else {
             return Ok(Outcome::Stuck);
         };
-        let spent = is_spent(patience, settled);
+        let spent = is_spent(patience, scanned);
         if spent {
             return Ok(Outcome::GivenUp);
         }

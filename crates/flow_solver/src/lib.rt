@@ -7,25 +7,32 @@
 // The limits are those of `bounded_network::Network`; a potential is of magnitude at most the greatest cost times the nodes.
 //
 // Successive shortest paths (Jewell 1958; Iri 1960; Busacker and Gowen 1960) with potentials (Edmonds and Karp 1972),
-// from amounts that are optimal at the potentials where it starts and don't balance yet. Each path is found by Dijkstra's
-// search. Where that takes too many nodes, it starts anew at the potentials of a coarse solution by cost scaling (Goldberg
-// and Tarjan 1990), which also finds most of the marks. What is proved says nothing of the number of steps.
+// from amounts that are optimal at the potentials where it starts and don't balance yet. Blocking passes (Dinic 1970) carry
+// away what steps of reduced cost 0 can. Each further path is found by Dijkstra's search. Where the searches go over too many
+// arcs, it starts anew at the potentials of a coarse solution by cost scaling (Goldberg and Tarjan 1990) with global updates
+// (Goldberg 1997), which also finds most of the marks. What is proved says nothing of the number of steps.
 #![tactic(auto)]
 
 mod balance;
 mod blank;
+mod blocking;
 mod coarse;
 mod cut;
 mod drain;
+mod global_update;
 mod guess;
+mod levels;
 mod links;
 mod path;
+mod push;
 mod queue;
 mod residual;
+mod scaling;
 mod search;
 mod solver;
 mod start;
 mod state;
 mod step;
+mod unit;
 
 pub use solver::{Solution, solve};

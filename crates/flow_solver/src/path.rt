@@ -74,8 +74,8 @@ fn update_potentials(net: &Network, state: &mut State, search: &Search)
     );
 }
 
-// How large a deficit is, as much of it as fits.
-fn deficit_of(excess: i128) -> u64
+/// How large a deficit is, as much of it as fits.
+pub fn deficit_of(excess: i128) -> u64
     requires deficit { excess <ℤ pos 0 }
     requires small { IsWithin (2 ^ 100) excess }
     ensures some { 0 < result }

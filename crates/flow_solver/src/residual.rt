@@ -89,3 +89,11 @@ pub fn residual_arc_of(net: &Network, residual_arcs: &ResidualArcs, place: usize
 {
     residual_arcs.all[place]
 }
+
+/// The number of residual arcs at the node.
+pub fn degree_of(net: &Network, residual_arcs: &ResidualArcs, node: u32) -> usize
+    requires residual_arcs { AreResidualArcs net.now residual_arcs.now }
+    requires node_in { node < net.now.nodes }
+{
+    residual_arcs.starts[node as usize + 1].saturating_sub(residual_arcs.starts[node as usize])
+}

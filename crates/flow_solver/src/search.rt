@@ -214,6 +214,13 @@ pub fn width_of(excess: i128) -> u64
     }
 }
 
+/// As much of an excess as fits, 0 where there is none.
+pub fn amount_of(excess: i128) -> u64
+    ensures { (result ≡ 0) ⊎ (pos result ≤ℤ excess) }
+{
+    if excess > 0 { width_of(excess) } else { 0 }
+}
+
 /// Settles nodes until one has a deficit, which is then settled last and gives `true`, or until nothing waits.
 pub fn run(
     net: &Network,

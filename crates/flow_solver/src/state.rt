@@ -4,7 +4,7 @@ ghost use Rattle.bounded_network.specs.Network.{NetworkValue, IsNetwork, arc_at,
 ghost use Rattle.flow_solver.specs.State.{IsWithin, excess_at, IsState, IsShifted};
 ghost use Rattle.flow_solver.specs.Step.{start_of, end_of, left_on, step_reduced, carried};
 
-use crate::step::{Step, arc_of, carry_on, end, start};
+use crate::step::{Step, arc_of, carry_on, end, left, start};
 use bounded_network::Network;
 
 /// An amount for each arc, the excess of each node, what enters it less what leaves it, and a potential for each node.
@@ -41,6 +41,19 @@ pub fn shift(excess: &mut [i128], from: u32, to: u32, amount: u64)
 {
     excess[from as usize] = less(excess[from as usize], amount);
     excess[to as usize] = more(excess[to as usize], amount);
+}
+
+/// How much more the step takes.
+pub fn left_at(net: &Network, state: &State, step: Step) -> u64
+    requires kept { IsState net.now state.now.flow.items state.now.excess.items state.now.potentials.items }
+    requires arc_in { step.arc < length net.now.arcs }
+    ensures { result ≡ left_on (arc_at net.now step.arc) (slice_index state.now.flow.items step.arc) step.forward }
+{
+    left(
+        arc_of(net, step.arc),
+        state.flow[step.arc as usize],
+        step.forward,
+    )
 }
 
 /// Carries the amount over the step.

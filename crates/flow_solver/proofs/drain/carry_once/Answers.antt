@@ -14,3 +14,8 @@ pub clear-requires : goal.clear-requires
 clear-requires c =
     let found = OnTrue_at c.if-not-found.false c.in_ok-found.ensures.found in
     IsClearable-from_search c.args.net.now c.args.state.now c.run.new.search found.search_kept
+
+pub arcs_at-scanned-requires-clause-nodes : goal.arcs_at-scanned-requires-clause-nodes
+arcs_at-scanned-requires-clause-nodes c =
+    let found = OnTrue_at c.if-not-found.false c.in_ok-found.ensures.found in
+    rw c.deref.ensures.value found.search_kept.is_tree.nodes

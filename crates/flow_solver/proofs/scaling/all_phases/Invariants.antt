@@ -1,7 +1,7 @@
 use Rattle.std.proofs.Common.{◌≡◌, ℕ, length}
 use Rattle.bounded_network.specs.Network.{potential_at}
 use Rattle.flow_solver.specs.State.{IsWithin}
-use Rattle.flow_solver.proofs.coarse.coarse_potentials.Given as goal
+use Rattle.flow_solver.proofs.scaling.all_phases.Given as goal
 
 -- the potentials stay small
 abbrev pub invariant-loop-phase : goal.invariant-loop-phase

@@ -1,0 +1,300 @@
+// Blocking passes over the steps of reduced cost 0 (Dinic 1970): they carry most excesses away before the first search.
+//
+// A pass goes over the nodes with an excess. From each it walks down the levels, and at a deficit pushes along the walk.
+// Each step of a push keeps the state by itself, so that nothing is proved of the walk.
+ghost use Rattle.std.specs.Prelude.{◌≡◌, ◌<◌, length, IfOk, OnOk, IfSome, All};
+ghost use Rattle.flow_solver.specs.Blocking.{AreLevels, IsTaken, IsWalk};
+ghost use Rattle.flow_solver.specs.Residual.{IsResidualArc, AreResidualArcs};
+ghost use Rattle.flow_solver.specs.State.{IsState, AreCalm};
+
+use crate::levels::{FAR, is_even, levels_of};
+use crate::path::deficit_of;
+use crate::push::push_over;
+use crate::residual::{ResidualArc, ResidualArcs, residual_arc_of};
+use crate::search::amount_of;
+use crate::state::{State, left_at};
+use crate::step::Step;
+use bounded_network::Network;
+use std::alloc::{AllocError, Global};
+
+// How many passes there are at most.
+const PASSES: u32 = 64;
+
+/// A step that the walk took from a node.
+#[derive(Clone, Copy)]
+pub struct Taken {
+    pub node: u32,
+    pub step: Step,
+}
+
+/// The levels, for each node the next of its residual arcs to follow, and the steps of the walk from its source.
+#[derive(Drop)]
+pub struct Walk {
+    pub levels: Vec<u32>,
+    pub next: Vec<usize>,
+    pub taken: Vec<Taken>,
+}
+
+// Whether one level is right below the other.
+fn is_below(lower: u32, upper: u32) -> bool {
+    lower < upper && lower + 1 == upper
+}
+
+// The step over the residual arc.
+fn step_over(residual_arc: ResidualArc) -> Step
+    ensures { result.arc ≡ residual_arc.arc }
+{
+    Step {
+        arc: residual_arc.arc,
+        forward: residual_arc.forward,
+    }
+}
+
+// Whether the walk can go on over the node's residual arc.
+fn leads_down(
+    net: &Network,
+    state: &State,
+    walk: &Walk,
+    node: u32,
+    residual_arc: ResidualArc,
+) -> bool
+    requires kept { IsState net.now state.now.flow.items state.now.excess.items state.now.potentials.items }
+    requires walk { IsWalk net.now walk.now }
+    requires node_in { node < net.now.nodes }
+    requires residual_arc { IsResidualArc net.now residual_arc }
+{
+    is_below(
+        walk.levels[residual_arc.to as usize],
+        walk.levels[node as usize],
+    ) && is_even(net, state, node, residual_arc)
+        && left_at(net, state, step_over(residual_arc)) > 0
+}
+
+// The residual arc of the node over which the walk goes on.
+fn way_down(
+    net: &Network,
+    residual_arcs: &ResidualArcs,
+    state: &State,
+    walk: &mut Walk,
+    node: u32,
+) -> Option<ResidualArc>
+    requires kept { IsState net.now state.now.flow.items state.now.excess.items state.now.potentials.items }
+    requires residual_arcs { AreResidualArcs net.now residual_arcs.now }
+    requires walk { IsWalk net.now walk.old }
+    requires node_in { node < net.now.nodes }
+    ensures walk { IsWalk net.now walk.new }
+    ensures residual_arc { IfSome result (λ residual_arc. IsResidualArc net.now residual_arc) }
+{
+    let end = residual_arcs.starts[node as usize + 1];
+    for place in walk.next[node as usize]..end {
+        let residual_arc = residual_arc_of(net, residual_arcs, place);
+        let found = leads_down(net, state, walk, node, residual_arc);
+        if found {
+            walk.next[node as usize] = place;
+            return Some(residual_arc);
+        }
+    }
+    walk.next[node as usize] = end;
+    None
+}
+
+// Goes one step back, from a node that leads nowhere. There is none at the source.
+fn step_back(net: &Network, walk: &mut Walk, node: u32) -> Option<u32>
+    requires walk { IsWalk net.now walk.old }
+    requires node_in { node < net.now.nodes }
+    ensures walk { IsWalk net.now walk.new }
+    ensures node { IfSome result (λ back. back < net.now.nodes) }
+{
+    walk.levels[node as usize] = FAR;
+    match walk.taken.pop() {
+        Some(taken) => Some(taken.node),
+        None => None,
+    }
+}
+
+// Goes one step on from the node, or back. Where it then is, or `None` if the source leads nowhere.
+fn go_on(
+    net: &Network,
+    residual_arcs: &ResidualArcs,
+    state: &State,
+    walk: &mut Walk,
+    node: u32,
+) -> Result<Option<u32>, AllocError>
+    requires kept { IsState net.now state.now.flow.items state.now.excess.items state.now.potentials.items }
+    requires residual_arcs { AreResidualArcs net.now residual_arcs.now }
+    requires walk { IsWalk net.now walk.old }
+    requires node_in { node < net.now.nodes }
+    ensures walk { OnOk result (IsWalk net.now walk.new) }
+    ensures node { IfOk result (λ next. IfSome next (λ node. node < net.now.nodes)) }
+{
+    match way_down(net, residual_arcs, state, walk, node) {
+        Some(residual_arc) => {
+            walk.taken.push(Taken {
+                node,
+                step: step_over(residual_arc),
+            })?;
+            Ok(Some(residual_arc.to))
+        }
+        None => Ok(step_back(net, walk, node)),
+    }
+}
+
+// The least of the amount and what each step takes.
+fn width_along(net: &Network, state: &State, walk: &Walk, most: u64) -> u64
+    requires kept { IsState net.now state.now.flow.items state.now.excess.items state.now.potentials.items }
+    requires walk { IsWalk net.now walk.now }
+{
+    let mut width = most;
+    for place in 0..walk.taken.len() {
+        width = width.min(left_at(net, state, walk.taken[place].step));
+    }
+    width
+}
+
+// Pushes the amount along the walk.
+fn push_along(net: &Network, state: &mut State, walk: &Walk, amount: u64)
+    requires kept { IsState net.now state.old.flow.items state.old.excess.items state.old.potentials.items }
+    requires calm { AreCalm net.now state.old.excess.items state.old.potentials.items }
+    requires walk { IsWalk net.now walk.now }
+    ensures kept { IsState net.now state.new.flow.items state.new.excess.items state.new.potentials.items }
+    ensures calm { AreCalm net.now state.new.excess.items state.new.potentials.items }
+{
+    for place in 0..walk.taken.len() {
+        push_over(net, state, walk.taken[place].step, amount);
+    }
+}
+
+// What can go from the source to the node with a deficit, as far as the two say.
+fn most_between(net: &Network, state: &State, source: u32, node: u32) -> u64
+    requires kept { IsState net.now state.now.flow.items state.now.excess.items state.now.potentials.items }
+    requires source_in { source < net.now.nodes }
+    requires node_in { node < net.now.nodes }
+{
+    let _nodes = net.nodes();
+    let lacks = state.excess[node as usize];
+    if lacks < 0 {
+        amount_of(state.excess[source as usize]).min(deficit_of(lacks))
+    } else {
+        0
+    }
+}
+
+// Pushes what it can along the walk from the source to the node, if that has a deficit. Says whether it has one.
+fn push_to(net: &Network, state: &mut State, walk: &Walk, source: u32, node: u32) -> bool
+    requires kept { IsState net.now state.old.flow.items state.old.excess.items state.old.potentials.items }
+    requires calm { AreCalm net.now state.old.excess.items state.old.potentials.items }
+    requires walk { IsWalk net.now walk.now }
+    requires source_in { source < net.now.nodes }
+    requires node_in { node < net.now.nodes }
+    ensures kept { IsState net.now state.new.flow.items state.new.excess.items state.new.potentials.items }
+    ensures calm { AreCalm net.now state.new.excess.items state.new.potentials.items }
+{
+    let most = most_between(net, state, source, node);
+    if most == 0 {
+        return false;
+    }
+    let amount = width_along(net, state, walk, most);
+    push_along(net, state, walk, amount);
+    true
+}
+
+// Walks from the source to deficits, as often as it has an excess and a way. Says whether it came to one.
+fn walk_from(
+    net: &Network,
+    residual_arcs: &ResidualArcs,
+    state: &mut State,
+    walk: &mut Walk,
+    source: u32,
+) -> Result<bool, AllocError>
+    requires kept { IsState net.now state.old.flow.items state.old.excess.items state.old.potentials.items }
+    requires calm { AreCalm net.now state.old.excess.items state.old.potentials.items }
+    requires residual_arcs { AreResidualArcs net.now residual_arcs.now }
+    requires walk { IsWalk net.now walk.old }
+    requires source_in { source < net.now.nodes }
+    ensures kept { IsState net.now state.new.flow.items state.new.excess.items state.new.potentials.items }
+    ensures calm { AreCalm net.now state.new.excess.items state.new.potentials.items }
+    ensures walk { OnOk result (IsWalk net.now walk.new) }
+{
+    let mut arrived = false;
+    let mut node = source;
+    walk.taken.clear();
+    for _move in 0..2 * (net.nodes() as usize + net.arcs().len()) {
+        let pushed = push_to(net, state, walk, source, node);
+        if pushed {
+            walk.taken.clear();
+            arrived = true;
+            node = source;
+        }
+        if state.excess[source as usize] <= 0 {
+            return Ok(arrived);
+        }
+        match go_on(net, residual_arcs, state, walk, node)? {
+            Some(next) => node = next,
+            None => return Ok(arrived),
+        }
+    }
+    Ok(arrived)
+}
+
+// A walk that has not begun.
+fn walk_at(
+    alloc: Global,
+    net: &Network,
+    residual_arcs: &ResidualArcs,
+    state: &State,
+) -> Result<Walk, AllocError>
+    requires kept { IsState net.now state.now.flow.items state.now.excess.items state.now.potentials.items }
+    requires residual_arcs { AreResidualArcs net.now residual_arcs.now }
+    ensures { IfOk result (λ walk. IsWalk net.now walk) }
+{
+    let levels = levels_of(alloc, net, residual_arcs, state)?;
+    Ok(Walk {
+        levels: levels.each,
+        next: residual_arcs.starts.as_slice().to_vec(alloc)?,
+        taken: Vec::new(alloc),
+    })
+}
+
+// One pass. Says whether it pushed anything.
+fn pass(
+    alloc: Global,
+    net: &Network,
+    residual_arcs: &ResidualArcs,
+    state: &mut State,
+) -> Result<bool, AllocError>
+    requires kept { IsState net.now state.old.flow.items state.old.excess.items state.old.potentials.items }
+    requires calm { AreCalm net.now state.old.excess.items state.old.potentials.items }
+    requires residual_arcs { AreResidualArcs net.now residual_arcs.now }
+    ensures kept { IsState net.now state.new.flow.items state.new.excess.items state.new.potentials.items }
+    ensures calm { AreCalm net.now state.new.excess.items state.new.potentials.items }
+{
+    let mut walk = walk_at(alloc, net, residual_arcs, state)?;
+    let mut pushed = false;
+    for source in 0..net.nodes() {
+        let arrived = walk_from(net, residual_arcs, state, &mut walk, source)?;
+        pushed = pushed || arrived;
+    }
+    Ok(pushed)
+}
+
+/// Carries away what steps of reduced cost 0 can, pass after pass, until one pushes nothing.
+pub fn block(
+    alloc: Global,
+    net: &Network,
+    residual_arcs: &ResidualArcs,
+    state: &mut State,
+) -> Result<(), AllocError>
+    requires kept { IsState net.now state.old.flow.items state.old.excess.items state.old.potentials.items }
+    requires calm { AreCalm net.now state.old.excess.items state.old.potentials.items }
+    requires residual_arcs { AreResidualArcs net.now residual_arcs.now }
+    ensures kept { IsState net.now state.new.flow.items state.new.excess.items state.new.potentials.items }
+    ensures calm { AreCalm net.now state.new.excess.items state.new.potentials.items }
+{
+    for _pass in 0..PASSES {
+        let pushed = pass(alloc, net, residual_arcs, state)?;
+        if !pushed {
+            break;
+        }
+    }
+    Ok(())
+}

@@ -1,0 +1,63 @@
+// The unit of the costs: what divides them all. Some best potentials are whole multiples of it, so that near ones are rounded.
+ghost use Rattle.std.specs.Prelude.{◌≡◌, length, ℕ};
+ghost use Rattle.bounded_network.specs.Network.{potential_at};
+ghost use Rattle.flow_solver.specs.State.{IsWithin};
+
+use crate::step::{arc_count, arc_of};
+use bounded_network::{MAX_COST, Network};
+
+// No two numbers of 64 bits take more steps of Euclid's algorithm.
+const STEPS: u32 = 96;
+
+// How far apart the least and the greatest potential can be.
+const SPAN: u64 = 2 * MAX_COST as u64;
+
+// What divides both numbers (Euclid).
+fn common(first: u64, second: u64) -> u64 {
+    let mut divisor = first;
+    let mut rest = second;
+    for _step in 0..STEPS {
+        if rest == 0 {
+            return divisor;
+        }
+        let next = divisor % rest;
+        divisor = rest;
+        rest = next;
+    }
+    divisor
+}
+
+/// What divides all costs, 0 where they are all 0.
+pub fn unit_of(net: &Network) -> u64 {
+    let mut unit: u64 = 0;
+    for place in 0..arc_count(net) {
+        let cost = arc_of(net, place).cost;
+        let size = cost.max(-cost);
+        if size > 0 {
+            unit = common(size as u64, unit);
+        }
+    }
+    unit
+}
+
+// The multiple of the unit, counted from the least potential, that is nearest.
+fn rounded(potential: i64, unit: u64) -> i64
+    ensures { IsWithin 8000000000 result }
+{
+    let unit = unit.max(1);
+    let above = potential.saturating_add(MAX_COST).max(0) as u64;
+    let units = above.saturating_add(unit / 2) / unit;
+    units.saturating_mul(unit).min(SPAN) as i64 - MAX_COST
+}
+
+/// Rounds all potentials to the unit.
+pub fn round_all(potentials: &mut Vec<i64>, unit: u64)
+    requires small { (v : ℕ) → IsWithin 8000000000 (potential_at potentials.old.items v) }
+    ensures long { length potentials.new.items ≡ length potentials.old.items }
+    ensures small { (v : ℕ) → IsWithin 8000000000 (potential_at potentials.new.items v) }
+{
+    for node in 0..potentials.len() {
+        let value = rounded(potentials[node], unit);
+        potentials[node] = value;
+    }
+}
