@@ -63,7 +63,7 @@ def network(papers, reviewers, pairs, demand, greatest, limit, institution):
 
 def rounded(score):
     half = 500000
-    return (1 if score > 0 else -1) * ((abs(score) + half // 2) // half * half)
+    return (1 if score > 0 else -1) * min((abs(score) + half // 2) // half * half, 2 * half)
 
 
 def changed(pairs, words):

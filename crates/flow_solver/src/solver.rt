@@ -26,8 +26,9 @@ pub enum Solution {
 ///
 /// Successive shortest paths (Jewell, Iri, Busacker and Gowen) with potentials (Edmonds and Karp): it begins with amounts
 /// that are optimal at its first potentials but don't balance, and carries what is too much at a node to the nearest node
-/// with a deficit, by reduced costs, until nothing is left or nothing is reached. Where much has to be settled for
-/// that, it begins anew at potentials that a coarse solution gives. No number of steps is claimed.
+/// with a deficit, by reduced costs, until nothing is left or nothing is reached. Blocking passes (Dinic) come first. Where
+/// the searches go over too many arcs, it begins anew at potentials that a coarse solution gives. No number of steps is
+/// claimed.
 pub fn solve(alloc: Global, net: &Network) -> Result<Solution, AllocError>
     ensures circulates { IfOk result (λ solution. IfSolved solution (λ flow potentials. IsCirculation net.now flow)) }
     ensures optimal { IfOk result (λ solution. IfSolved solution (λ flow potentials. AreOptimal net.now flow potentials)) }
