@@ -3,7 +3,7 @@
 // Excesses are pushed over residual arcs with a negative reduced cost, and a node that has no such arc is relabelled, to a
 // potential lower by epsilon than it must be to have one. Nothing is proved of the amounts: those that would be too large
 // stop at their bounds.
-ghost use Rattle.std.specs.Prelude.{◌≡◌, ◌<◌, length, ℕ, IfOk, OnOk, All};
+ghost use Rattle.std.specs.Prelude.{◌≡◌, ◌<◌, length, ℕ, IfOk, OnOk, All, if◌then◌else◌};
 ghost use Rattle.bounded_network.specs.Network.{potential_at};
 ghost use Rattle.flow_solver.specs.Coarse.{IsCoarse};
 ghost use Rattle.flow_solver.specs.Residual.{IsResidualArc, AreResidualArcs};
@@ -105,7 +105,9 @@ pub fn phase_at(
 }
 
 /// How much more the arc takes forward, or back.
-pub fn room_in(left: Left, forward: bool) -> u64 {
+pub fn room_in(left: Left, forward: bool) -> u64
+    ensures { result ≡ (if forward then left.ahead else left.back) }
+{
     if forward { left.ahead } else { left.back }
 }
 

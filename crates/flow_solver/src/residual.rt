@@ -1,5 +1,5 @@
 // The arcs at each node side by side, for searches that go over them often.
-ghost use Rattle.std.specs.Prelude.{◌<◌, ◌≤◌, length, IfOk, OnOk, All};
+ghost use Rattle.std.specs.Prelude.{◌<◌, ◌≤◌, length, IfOk, OnOk, All, ◌-◌, slice_index, ◌+◌, ◌≡◌};
 ghost use Rattle.flow_solver.specs.Links.{AreLinks};
 ghost use Rattle.flow_solver.specs.Residual.{IsResidualArc, AreResidualArcs};
 
@@ -94,6 +94,7 @@ pub fn residual_arc_of(net: &Network, residual_arcs: &ResidualArcs, place: usize
 pub fn degree_of(net: &Network, residual_arcs: &ResidualArcs, node: u32) -> usize
     requires residual_arcs { AreResidualArcs net.now residual_arcs.now }
     requires node_in { node < net.now.nodes }
+    ensures { result ≡ slice_index residual_arcs.now.starts.items (node + 1) - slice_index residual_arcs.now.starts.items node }
 {
     residual_arcs.starts[node as usize + 1].saturating_sub(residual_arcs.starts[node as usize])
 }
