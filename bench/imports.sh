@@ -1,7 +1,7 @@
 #!/bin/bash
 # Reads a table of 250,000 values (1,500 papers, about 6 MB) with the importer, as a whole program, and with Python's csv
 # module and float on the third column, in one run: the least of five turns of each. Python's time is without its start.
-# usage: bench/imports.sh PATH-OF-IMPORT_BENCH
+# usage: bench/imports.sh PATH-OF-BENCHES
 set -eu
 folder=$(mktemp -d)
 trap 'rm -rf "$folder"' EXIT
@@ -19,7 +19,7 @@ with open(path, "w", newline="") as table:
 
 def imported():
     with open(path, "rb") as table:
-        return int(subprocess.run([program], stdin=table, capture_output=True, check=True).stdout.split()[1])
+        return int(subprocess.run([program, "import"], stdin=table, capture_output=True, check=True).stdout.split()[1])
 
 
 def by_python():

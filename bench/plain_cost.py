@@ -1,10 +1,10 @@
 #!/usr/bin/env python3
-"""Reads networks as `solve_bench` does, a blank line between them, and writes the cost of a best circulation of each, or
+"""Reads networks as `benches solve` does, a blank line between them, and writes the cost of a best circulation of each, or
 `unsat`: in the plainest way, which shares nothing with `flow_solver`. It begins with every arc at its floor, carries what is
 too much at a node along any path to a node that lacks something, and then cancels cycles of negative cost until there is
 none.
 
-usage: plain_cost.py < crates/solve_bench/stdin
+usage: plain_cost.py < crates/benches/stdin
 """
 import sys
 

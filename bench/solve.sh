@@ -3,7 +3,7 @@
 # rules. The times are those of the solve alone: of three runs each, the median. The costs of one workload are compared, and a
 # difference ends the script. A solve that takes longer than the limit is stopped and shown as not done.
 # It wants g++ and Debian's liblemon-dev.
-# usage: bench/solve.sh PATH-OF-SOLVE_BENCH [LIMIT-IN-SECONDS, 120 if not given] [WORKLOAD, all if not given]
+# usage: bench/solve.sh PATH-OF-BENCHES [LIMIT-IN-SECONDS, 120 if not given] [WORKLOAD, all if not given]
 set -eu
 solver=$(realpath "$1")
 limit=${2:-120}

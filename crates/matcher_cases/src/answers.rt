@@ -1,5 +1,6 @@
 // What was written, as it is printed.
 
+use score_spec::read_value;
 use std::str;
 
 // The most bytes of a text that is printed whole.
@@ -21,5 +22,34 @@ pub(crate) fn print_text(rt: &HostRuntime, text: &[u8]) -> anyhow::Result<()> {
         return Ok(());
     }
     print!(rt; "{}", str::from_utf8(text)?)?;
+    Ok(())
+}
+
+// Whether a line is one of numbers.
+fn is_of_numbers(line: &str) -> bool {
+    match line.as_bytes().first() {
+        Some(byte) => byte.is_ascii_digit() || *byte == b'-',
+        None => false,
+    }
+}
+
+/// Prints each line of a text that begins with a word, with the lines of numbers behind it.
+pub(crate) fn print_lines(rt: &HostRuntime, text: &[u8], word: &str) -> anyhow::Result<()> {
+    let mut is_due = false;
+    for line in str::from_utf8(text)?.lines() {
+        is_due = line.starts_with(word) || is_due && is_of_numbers(line);
+        if is_due {
+            println!(rt; "{line}")?;
+        }
+    }
+    Ok(())
+}
+
+/// Prints the value that a text writes, in ten-thousandths, or its fault.
+pub(crate) fn print_value(rt: &HostRuntime, text: &str) -> anyhow::Result<()> {
+    match read_value(text) {
+        Ok(value) => println!(rt; "{}", value.tenthousandths())?,
+        Err(fault) => println!(rt; "{fault:?}")?,
+    }
     Ok(())
 }

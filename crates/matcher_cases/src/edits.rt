@@ -6,6 +6,7 @@ use crate::answers::print_text;
 use anyhow::{Context, bail};
 use edge_io::{Io, MemoryFile, SureSink};
 use editions::{Body, Edit, EditFault, Edited, How, LoadFault, TableName, Venue};
+use match_rules::Rules;
 use matcher_cli::write_refusal;
 use publication::write_rules;
 use score_spec::Text;
@@ -65,42 +66,59 @@ fn refusal_of(alloc: Global, table: &str, fault: EditFault) -> anyhow::Result<Lo
     }
 }
 
-// Prints the rules after an edit, or the line of its fault.
-fn print_answer(
-    rt: &HostRuntime,
-    table: &str,
-    answer: Result<Edited, EditFault>,
-) -> anyhow::Result<Option<Venue>> {
+// Prints the rules after an edit.
+fn print_rules(rt: &HostRuntime, rules: &Rules) -> anyhow::Result<()> {
     let mut sink = SureSink::new(rt.alloc());
-    let (written, venue) = match answer {
-        Ok(edited) => (write_rules(&edited.rules, &mut sink), Some(edited.venue)),
-        Err(fault) => (
-            write_refusal(&refusal_of(rt.alloc(), table, fault)?, &mut sink),
-            None,
-        ),
-    };
-    if written == Err(Io::Failed) {
+    if write_rules(rules, &mut sink) == Err(Io::Failed) {
         bail!("writing failed");
     }
-    print_text(rt, sink.bytes())?;
-    Ok(venue)
+    print_text(rt, sink.bytes())
 }
 
-// The venue after an edit, or the same where it is refused.
-fn after(rt: &HostRuntime, venue: Venue, part: &MemoryFile) -> anyhow::Result<Venue> {
+// Prints the line of the fault of an edit.
+fn print_fault(rt: &HostRuntime, table: &str, fault: EditFault) -> anyhow::Result<()> {
+    let refusal = refusal_of(rt.alloc(), table, fault)?;
+    let mut sink = SureSink::new(rt.alloc());
+    if write_refusal(&refusal, &mut sink) == Err(Io::Failed) {
+        bail!("writing failed");
+    }
+    print_text(rt, sink.bytes())
+}
+
+// The edit of a part.
+fn edit_in(alloc: Global, table: &str, how: &str, bytes: &[u8]) -> anyhow::Result<Edit>
+    ensures { IfOk result (λ edit. edit.table ≡ TableName.Settings → edit.how ≡ How.Replace) }
+{
+    let body = Body::from_vec(Vec::from_slice(alloc, bytes)?);
+    Ok(edit_of(table_of(alloc, table)?, how, body))
+}
+
+// What a venue answers to an edit.
+fn answer_of(alloc: Global, venue: &Venue, edit: &Edit) -> Result<Edited, EditFault>
+    requires { edit.now.table ≡ TableName.Settings → edit.now.how ≡ How.Replace }
+{
+    venue.next(alloc, edit)
+}
+
+// Makes an edit; a venue that refuses it stays as it was.
+fn make(rt: &HostRuntime, venue: &mut Venue, part: &MemoryFile) -> anyhow::Result<()> {
     let alloc = rt.alloc();
     let (table, how) = part.name.split_once(' ').context("edit TABLE HOW")?;
-    let body = Body::from_vec(Vec::from_slice(alloc, part.bytes.as_slice())?);
-    let edit = edit_of(table_of(alloc, table)?, how, body);
-    let answer = venue.next(alloc, &edit);
-    Ok(print_answer(rt, table, answer)?.unwrap_or(venue))
+    let edit = edit_in(alloc, table, how, part.bytes.as_slice())?;
+    match answer_of(alloc, venue, &edit) {
+        Ok(edited) => {
+            *venue = edited.venue;
+            print_rules(rt, &edited.rules)
+        }
+        Err(fault) => print_fault(rt, table, fault),
+    }
 }
 
 /// Makes the edits from the empty venue on, and prints what each answers.
 pub(crate) fn make_edits(rt: &HostRuntime, parts: &[MemoryFile]) -> anyhow::Result<()> {
     let mut venue = Venue::empty(rt.alloc())?;
     for part in parts {
-        venue = after(rt, venue, part)?;
+        make(rt, &mut venue, part)?;
     }
     Ok(())
 }

@@ -6,13 +6,18 @@
 //!
 //! - `case NAME` prints the name. `word WORD` is a word behind the program's name.
 //! - `input`, `file NAME`, `edit TABLE HOW` and `text NAME` begin a part.
-//! - `put NAME` appends the text of that name. `each FIRST END LINE` appends a line for each number from the first up
-//!   to the end, in the place of its `#`. `double N` doubles the part N times, and `shorten` drops its last byte.
+//! - `put NAME` appends the text of that name, `bytes TEXT` a text in which `\n`, `\r` and `\xHH` stand for those bytes.
+//!   `each FIRST END LINE` appends a line for each number from the first up to the end, in the place of its `#`.
+//!   `double N` doubles the part N times, and `shorten` drops its last byte.
 //! - `failing-read N`, `failing-file N` and `failing-write N` list calls that fail.
 //! - `keep` keeps the parts as texts. `run` runs the words, and `apply` makes the edits from the empty venue on.
+//! - `answer NAME` runs the words and keeps what they write as a text. `show NAME WORD` prints each line of a text that begins
+//!   with the word, with the lines of numbers behind it. `value TEXT` prints the value of a text in ten-thousandths, or its
+//!   fault.
 #![tactic(auto)]
 
 mod answers;
+mod bytes;
 mod edits;
 mod parts;
 mod session;

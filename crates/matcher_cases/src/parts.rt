@@ -1,5 +1,6 @@
 // The parts of a case, as their lines are read.
 
+use crate::bytes::push_text;
 use anyhow::{Context, bail};
 use edge_io::MemoryFile;
 use std::alloc::Global;
@@ -25,18 +26,29 @@ pub(crate) fn push_line(parts: &mut Vec<MemoryFile>, line: &str) -> anyhow::Resu
     push_bytes(parts, b"\n")
 }
 
+/// Appends the bytes that a text with escapes stands for.
+pub(crate) fn push_escapes(parts: &mut Vec<MemoryFile>, text: &str) -> anyhow::Result<()> {
+    let part = parts.last_mut().context("no part was begun")?;
+    push_text(&mut part.bytes, text)
+}
+
+/// The text of a name.
+pub(crate) fn text_of<'a>(texts: &'a [MemoryFile], name: &str) -> anyhow::Result<&'a [u8]> {
+    for text in texts {
+        if text.name.as_str() == name {
+            return Ok(text.bytes.as_slice());
+        }
+    }
+    bail!("there is no text of the name {name}")
+}
+
 /// Appends the lines of the text of a name.
 pub(crate) fn put_text(
     parts: &mut Vec<MemoryFile>,
     texts: &[MemoryFile],
     name: &str,
 ) -> anyhow::Result<()> {
-    for text in texts {
-        if text.name.as_str() == name {
-            return push_bytes(parts, text.bytes.as_slice());
-        }
-    }
-    bail!("there is no text of the name {name}")
+    push_bytes(parts, text_of(texts, name)?)
 }
 
 /// Drops the last byte of the last part.

@@ -1,9 +1,12 @@
 // The case that is being read.
 
+use crate::answers::{print_lines, print_text, print_value};
 use crate::edits::make_edits;
-use crate::parts::{begin, double, drop_byte, push_each, push_line, put_text};
+use crate::parts::{
+    begin, double, drop_byte, push_each, push_escapes, push_line, put_text, text_of,
+};
 use crate::words::{Failing, run_words};
-use anyhow::bail;
+use anyhow::{Context, bail};
 use edge_io::MemoryFile;
 use std::alloc::Global;
 use std::mem;
@@ -40,12 +43,32 @@ impl Session {
         Ok(())
     }
 
-    fn run(&mut self, rt: &HostRuntime) -> anyhow::Result<()> {
+    // What the words of the case write.
+    fn written(&mut self, rt: &HostRuntime) -> anyhow::Result<Vec<u8>> {
         let alloc = rt.alloc();
         let parts = self.taken(alloc);
         let words = mem::replace(&mut self.words, Vec::new(alloc));
         let failing = mem::replace(&mut self.failing, Failing::new(alloc));
         run_words(rt, words.as_slice(), parts, failing)
+    }
+
+    fn run(&mut self, rt: &HostRuntime) -> anyhow::Result<()> {
+        let bytes = self.written(rt)?;
+        print_text(rt, bytes.as_slice())
+    }
+
+    // Runs the words, and keeps what they write as a text.
+    fn answer(&mut self, rt: &HostRuntime, name: &str) -> anyhow::Result<()> {
+        let bytes = self.written(rt)?;
+        let name = String::from_str(rt.alloc(), name)?;
+        self.texts.push(MemoryFile { name, bytes })?;
+        Ok(())
+    }
+
+    // Prints the lines of a text that a word begins.
+    fn show(&self, rt: &HostRuntime, rest: &str) -> anyhow::Result<()> {
+        let (name, word) = rest.split_once(' ').context("show NAME WORD")?;
+        print_lines(rt, text_of(self.texts.as_slice(), name)?, word)
     }
 
     fn take_word(&mut self, alloc: Global, word: &str) -> anyhow::Result<()> {
@@ -57,6 +80,7 @@ impl Session {
     fn take_part(&mut self, alloc: Global, word: &str, rest: &str) -> anyhow::Result<()> {
         match word {
             "" => push_line(&mut self.parts, rest),
+            "bytes" => push_escapes(&mut self.parts, rest),
             "put" => put_text(&mut self.parts, self.texts.as_slice(), rest),
             "each" => push_each(alloc, &mut self.parts, rest),
             "double" => double(alloc, &mut self.parts, rest),
@@ -78,6 +102,9 @@ impl Session {
             "failing-write" => self.failing.writes.push(rest.parse::<u64>()?)?,
             "keep" => self.keep(alloc)?,
             "run" => self.run(rt)?,
+            "answer" => self.answer(rt, rest)?,
+            "show" => self.show(rt, rest)?,
+            "value" => print_value(rt, rest)?,
             "apply" => make_edits(rt, self.taken(alloc).as_slice())?,
             _ => self.take_part(alloc, word, rest)?,
         }

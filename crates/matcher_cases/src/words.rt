@@ -1,6 +1,5 @@
 // The words of a case, with its input and its folder.
 
-use crate::answers::print_text;
 use edge_io::{MemoryFile, MemoryFolder, MemorySink, MemorySource};
 use matcher_cli::matcher;
 use std::alloc::{AllocError, Global};
@@ -26,12 +25,12 @@ impl Failing {
 
 /// The input, which is the part without a name, and the files.
 #[derive(Drop)]
-struct Outside {
+struct Given {
     input: Vec<u8>,
     files: Vec<MemoryFile>,
 }
 
-fn outside_of(alloc: Global, parts: Vec<MemoryFile>) -> Result<Outside, AllocError> {
+fn given_in(alloc: Global, parts: Vec<MemoryFile>) -> Result<Given, AllocError> {
     let mut input = Vec::new(alloc);
     let mut files = Vec::new(alloc);
     for part in parts {
@@ -41,22 +40,50 @@ fn outside_of(alloc: Global, parts: Vec<MemoryFile>) -> Result<Outside, AllocErr
             files.push(part)?;
         }
     }
-    Ok(Outside { input, files })
+    Ok(Given { input, files })
 }
 
-/// Runs the words, and prints the status and what was written.
+/// What the words read and write.
+#[derive(Drop)]
+struct Outside {
+    source: MemorySource,
+    sink: MemorySink,
+    folder: MemoryFolder,
+}
+
+fn outside_of(alloc: Global, given: Given, failing: Failing) -> Result<Outside, AllocError> {
+    Ok(Outside {
+        source: MemorySource::new(given.input, failing.reads)?,
+        sink: MemorySink::new(alloc, failing.writes)?,
+        folder: MemoryFolder::new(given.files, failing.files)?,
+    })
+}
+
+// Does what the words ask.
+fn status_of(alloc: Global, words: &[String], outside: &mut Outside) -> u8 {
+    let Outside {
+        source,
+        sink,
+        folder,
+    } = outside;
+    matcher(alloc, words, source, sink, folder).code()
+}
+
+// Prints the status, and gives back what was written.
+fn written(rt: &HostRuntime, words: &[String], outside: &mut Outside) -> anyhow::Result<Vec<u8>> {
+    let status = status_of(rt.alloc(), words, outside);
+    println!(rt; "status {status}")?;
+    Ok(Vec::from_slice(rt.alloc(), outside.sink.bytes())?)
+}
+
+/// Runs the words, prints the status, and gives back what was written.
 pub(crate) fn run_words(
     rt: &HostRuntime,
     words: &[String],
     parts: Vec<MemoryFile>,
     failing: Failing,
-) -> anyhow::Result<()> {
-    let alloc = rt.alloc();
-    let Outside { input, files } = outside_of(alloc, parts)?;
-    let mut source = MemorySource::new(input, failing.reads)?;
-    let mut folder = MemoryFolder::new(files, failing.files)?;
-    let mut sink = MemorySink::new(alloc, failing.writes)?;
-    let status = matcher(alloc, words, &mut source, &mut sink, &mut folder);
-    println!(rt; "status {}", status.code())?;
-    print_text(rt, sink.bytes())
+) -> anyhow::Result<Vec<u8>> {
+    let given = given_in(rt.alloc(), parts)?;
+    let mut outside = outside_of(rt.alloc(), given, failing)?;
+    written(rt, words, &mut outside)
 }

@@ -1,12 +1,11 @@
-//! Reads a table of values of affinity on standard input and prints the number of its rows. It serves
-//! `bench/imports.sh`.
-#![tactic(auto)]
+//! A table of values of affinity.
 
 use anyhow::bail;
 use bid_import::{ImportFault, read_values};
 use std::io::Read;
 
-fn run(rt: &HostRuntime) -> anyhow::Result<()> {
+/// Reads the table on standard input and prints the number of its rows.
+pub(crate) fn import_values(rt: &HostRuntime) -> anyhow::Result<()> {
     let alloc = rt.alloc();
     let mut bytes = Vec::new(alloc);
     rt.stdin().read_to_end(&mut bytes)?;
@@ -16,8 +15,4 @@ fn run(rt: &HostRuntime) -> anyhow::Result<()> {
         Err(ImportFault::Bad { row, code }) => bail!("row {row}: {code:?}"),
     }
     Ok(())
-}
-
-fn main(rt: HostRuntime) -> anyhow::Result<()> {
-    run(&rt)
 }

@@ -1,6 +1,4 @@
-//! Compiles the network of the largest rules: 1,500 papers, 1,500 reviewers and 250,000 pairs, each with a group of its
-//! own. It prints the numbers of nodes and arcs. It serves `bench/network.sh`.
-#![tactic(auto)]
+//! The network of the largest rules: 1,500 papers, 1,500 reviewers and 250,000 pairs, each with a group of its own.
 
 use anyhow::bail;
 use bounded_network::{Amounts, compile};
@@ -61,7 +59,8 @@ fn pairs(alloc: Global) -> anyhow::Result<Vec<RulePair>> {
     Ok(pairs)
 }
 
-fn run(rt: &HostRuntime) -> anyhow::Result<()> {
+/// Compiles the network and prints the numbers of its nodes and arcs.
+pub(crate) fn compile_largest(rt: &HostRuntime) -> anyhow::Result<()> {
     let alloc = rt.alloc();
     let Ok(rules) = Rules::new(alloc, 2, papers(alloc)?, reviewers(alloc)?, pairs(alloc)?) else {
         bail!("the rules are past a limit");
@@ -69,8 +68,4 @@ fn run(rt: &HostRuntime) -> anyhow::Result<()> {
     let network = compile(alloc, &rules, Sieve::All, Amounts::Tickets)?;
     println!(rt; "nodes {} arcs {}", network.nodes(), network.arcs().len())?;
     Ok(())
-}
-
-fn main(rt: HostRuntime) -> anyhow::Result<()> {
-    run(&rt)
 }

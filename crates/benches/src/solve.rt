@@ -2,18 +2,15 @@
 //! `unsat`.
 //!
 //! The text of a network is `NODES ARCS` and then `TAIL HEAD FLOOR ROOM COST` for each arc, with white space between the
-//! numbers; an empty line stands between two networks. With the word `time`, the microseconds of each solve alone go to
-//! standard error. It serves `bench/solve.sh`. The stored run has the costs that `bench/plain_cost.py` finds; the last
-//! network there is contended enough for the coarse phase.
-#![tactic(auto)]
+//! numbers; an empty line stands between two networks.
 
 use anyhow::{Context, bail};
 use bounded_network::{Arc, Network};
 use flow_solver::{Solution, solve};
 use std::alloc::Global;
 use std::io::Read;
+use std::str;
 use std::time::Instant;
-use std::{env, str};
 
 fn read_arcs(alloc: Global, text: &str) -> anyhow::Result<(u32, Vec<Arc>)> {
     let mut words = text.split_ascii_whitespace();
@@ -74,16 +71,12 @@ fn solve_one(rt: &HostRuntime, text: &str, timed: bool) -> anyhow::Result<()> {
     Ok(())
 }
 
-fn run(rt: &HostRuntime) -> anyhow::Result<()> {
+/// Solves the networks; where it is to be timed, the microseconds of each solve alone go to standard error.
+pub(crate) fn solve_all(rt: &HostRuntime, timed: bool) -> anyhow::Result<()> {
     let mut bytes = Vec::new(rt.alloc());
     rt.stdin().read_to_end(&mut bytes)?;
-    let timed = env::args(rt)?.count() > 1;
     for network in str::from_utf8(bytes.as_slice())?.split("\n\n") {
         solve_one(rt, network, timed)?;
     }
     Ok(())
-}
-
-fn main(rt: HostRuntime) -> anyhow::Result<()> {
-    run(&rt)
 }

@@ -1,0 +1,41 @@
+//! What the scripts of `bench/` measure, one word each:
+//!
+//! - `network` compiles the network of the largest rules and prints its size, for `bench/network.sh`.
+//! - `import` reads a table of values on standard input and prints the number of its rows, for `bench/imports.sh`.
+//! - `solve` solves the networks on standard input and prints the cost of each, for `bench/solve.sh`; `time` does the same
+//!   and writes the microseconds of each solve alone to standard error.
+//!
+//! The stored run has the words `network` and `solve`. Its costs are those that `bench/plain_cost.py` finds; the last network
+//! there is contended enough for the coarse phase.
+#![tactic(auto)]
+
+mod import;
+mod network;
+mod solve;
+
+use anyhow::bail;
+use import::import_values;
+use network::compile_largest;
+use solve::solve_all;
+use std::env;
+
+fn measure(rt: &HostRuntime, word: &str) -> anyhow::Result<()> {
+    match word {
+        "network" => compile_largest(rt),
+        "import" => import_values(rt),
+        "solve" => solve_all(rt, false),
+        "time" => solve_all(rt, true),
+        _ => bail!("{word} is no word of a benchmark"),
+    }
+}
+
+fn run(rt: &HostRuntime) -> anyhow::Result<()> {
+    for word in env::args(rt)?.skip(1) {
+        measure(rt, word.as_str())?;
+    }
+    Ok(())
+}
+
+fn main(rt: HostRuntime) -> anyhow::Result<()> {
+    run(&rt)
+}
