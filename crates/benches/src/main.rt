@@ -4,15 +4,19 @@
 //! - `import` reads a table of values on standard input and prints the number of its rows, for `bench/imports.sh`.
 //! - `solve` solves the networks on standard input and prints the cost of each, for `bench/solve.sh`; `time` does the same
 //!   and writes the microseconds of each solve alone to standard error.
+//! - `write` reads a certificate on standard input and writes the text of its answer, for `bench/job.sh`; the microseconds of
+//!   the writing go to standard error.
 //!
 //! The stored run has the words `network` and `solve`. Its costs are those that `bench/plain_cost.py` finds; the last network
 //! there is contended enough for the coarse phase.
 #![tactic(auto)]
 
+mod answer;
 mod import;
 mod network;
 mod solve;
 
+use answer::write_again;
 use anyhow::bail;
 use import::import_values;
 use network::compile_largest;
@@ -25,6 +29,7 @@ fn measure(rt: &HostRuntime, word: &str) -> anyhow::Result<()> {
         "import" => import_values(rt),
         "solve" => solve_all(rt, false),
         "time" => solve_all(rt, true),
+        "write" => write_again(rt),
         _ => bail!("{word} is no word of a benchmark"),
     }
 }

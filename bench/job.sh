@@ -1,0 +1,60 @@
+#!/bin/bash
+# Whole jobs, from a folder to the text of a certificate, beside LEMON's NetworkSimplex as a process that reads and solves the
+# network of the same rules, in one run; medians of three. Each certificate is checked by `matcher check` and by the second
+# checker. It wants g++ and Debian's liblemon-dev.
+# usage: bench/job.sh PATH-OF-MATCHER [SIZE, 25 if not given]
+set -eu
+matcher=$(realpath "$1")
+size=${2:-25}
+here=$(dirname "$(realpath "$0")")
+folder=$(mktemp -d)
+trap 'rm -rf "$folder"' EXIT
+g++ -O2 -w -o "$folder/lemon" "$here/lemon.cpp"
+python3 "$here/make_folder.py" 7 "$size" "$folder/conference"
+python3 "$here/make_folder.py" 7 1 "$folder/uneven"
+python3 - "$folder/uneven" <<'CAPS'
+import sys
+x = 3
+with open(f"{sys.argv[1]}/caps.csv", "w", newline="") as out:
+    for paper in range(60):
+        for reviewer in range(45):
+            if paper % 9 != reviewer % 9:
+                x = (x * 1664525 + 1013904223) % 4294967296
+                out.write(f"p{paper:04},r{reviewer:04},0.{1000 + x // 65536 % 7364:04}\n")
+CAPS
+python3 - "$folder" "$matcher" "$here" <<'MEASURE'
+import os, resource, statistics, subprocess, sys, time
+folder, matcher, here = sys.argv[1:]
+
+def seconds(command, where, text=None):
+    taken = []
+    for _ in range(3):
+        start = time.perf_counter()
+        done = subprocess.run(command, cwd=where, input=text, capture_output=True)
+        taken.append(time.perf_counter() - start)
+    return statistics.median(taken), done
+
+def said(command, text):
+    done = subprocess.run(command, input=text, capture_output=True)
+    return f"{done.returncode} {done.stdout.decode().strip()}"
+
+def job(name):
+    where = f"{folder}/{name}"
+    rules = subprocess.run([matcher, "rules"], cwd=where, capture_output=True).stdout
+    network = subprocess.run([sys.executable, f"{here}/network_of_rules.py"], input=rules, capture_output=True).stdout
+    ours, done = seconds([matcher, "solve", "whole"], where)
+    lemon, theirs = seconds([f"{folder}/lemon", "simplex"], where, network)
+    checked = said([matcher, "check"], done.stdout)
+    second = said([sys.executable, f"{here}/../checker/check.py"], done.stdout)
+    print(f"{name}: status {done.returncode}, {len(done.stdout)} bytes; check says {checked}")
+    print(f"{name}: matcher solve whole {ours:.3f} s, LEMON reads and solves in {lemon:.3f} s, ratio {ours / lemon:.2f}")
+    if checked != second:
+        sys.exit(f"{name}: the second checker says {second}")
+    cost = int(theirs.stdout)
+    if f"total {-cost} " not in checked:
+        sys.exit(f"{name}: LEMON's cost is {cost}")
+
+job("conference")
+job("uneven")
+print(f"peak memory {resource.getrusage(resource.RUSAGE_CHILDREN).ru_maxrss} KiB")
+MEASURE
