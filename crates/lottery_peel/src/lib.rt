@@ -10,5 +10,10 @@
 #![tactic(auto)]
 
 mod examples;
+mod next;
+mod peeling;
+mod taking;
+mod weights;
 
 pub use examples::worked_steps;
+pub use peeling::peel;
