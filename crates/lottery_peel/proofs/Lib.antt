@@ -1,0 +1,2 @@
+pub mod AmountLists
+pub mod OneAmount
