@@ -1,2 +1,4 @@
 pub mod AmountLists
+pub mod FlowSteps
+pub mod GoodSteps
 pub mod OneAmount
