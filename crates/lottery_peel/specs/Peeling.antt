@@ -11,7 +11,7 @@ use Rattle.match_rules.specs.Chosen.{chosen_places}
 use Rattle.match_rules.specs.Groups.{group_count}
 use Rattle.match_rules.specs.Pieces.{DoAscend, piece_at}
 use Rattle.match_rules.specs.Rules.{RulesValue}
-use Rattle.match_rules.specs.SharesFit.{group_shares, reviewer_shares}
+use Rattle.match_rules.specs.SharesFit.{HasShares, group_shares, reviewer_shares}
 use Rattle.match_rules.specs.Sums.{count_below}
 use Rattle.bounded_network.specs.declared.spans.Span.{Span}
 use Rattle.bounded_network.specs.Compile.{amounts_in, flow_of}
@@ -90,4 +90,21 @@ pub record IsPeeling (rules : RulesValue) (shares : List ℕ) (left : ℕ) (rest
   pub gone : 1 ≤ left → (counts : List ℕ) → IsNext rules rest left counts → (k : ℕ) → k < length pieces → ¬ ((piece_at pieces k).pairs ≡ chosen_places (amounts_in rules counts))
   pub empty : left ≡ 0 → (e : ℕ) → e < length rules.pairs → slice_index rest e ≡ 0
   pub last : left ≡ 0 → length pieces ≤ 1 + open_count rules.tickets (flow_of rules shares)
+  pub apart : IsDistinct same_places pieces
+
+-- a step of the loop: a next assignment stands for as many tickets as it may, and what it takes is taken off
+pub record IsStepTo (rules : RulesValue) (left : ℕ) (rest counts : List ℕ) (piece : Piece) (next : ℕ) (new : List ℕ) : Type 0 where
+  pub assigns : IsNext rules rest left counts
+  pub weighs : IsWeight left (flow_of rules rest) counts (length (flow_of rules rest)) piece.weight
+  pub takes : AreLess rest (amounts_in rules counts) new piece.weight
+  pub places : piece.pairs ≡ chosen_places (amounts_in rules counts)
+  pub after : next + piece.weight ≡ left
+
+-- all pieces of shares, in any order: they have all tickets and exactly the shares, there are few, and no two have the same
+-- places
+pub record IsPeeled (rules : RulesValue) (shares : List ℕ) (pieces : List Piece) : Type 0 where
+  pub good : All (IsGoodPiece rules shares) pieces
+  pub whole : tickets pieces ≡ rules.tickets
+  pub exact : HasShares rules shares pieces
+  pub few : length pieces ≤ 1 + unwhole_count rules shares
   pub apart : IsDistinct same_places pieces

@@ -1,0 +1,5 @@
+pub mod AmountLists
+pub mod FlowSteps
+pub mod GoodSteps
+pub mod LoopLaws
+pub mod OneAmount
