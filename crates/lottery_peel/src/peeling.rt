@@ -1,13 +1,14 @@
 // The pieces of shares.
 
-ghost use Rattle.std.specs.Prelude.{◌≡◌, ℕ, ◌+◌, ◌≤◌, List, length, All, IfOk};
+ghost use Rattle.std.specs.Prelude.{◌≡◌, ◌+◌, ◌≤◌, length, All, IfOk};
 ghost use Rattle.match_rules.specs.declared.answer.Sieve.{Sieve};
 ghost use Rattle.match_rules.specs.declared.answer.Sieve.TheVariants.{All as EveryPair};
 ghost use Rattle.match_rules.specs.Answers.{Rounded};
 ghost use Rattle.match_rules.specs.Assignments.{Fits, Meets, tickets};
 ghost use Rattle.match_rules.specs.Plain.{Plain};
+ghost use Rattle.match_rules.specs.Rules.{AreRules};
 ghost use Rattle.match_rules.specs.SharesFit.{HasShares, SharesFit};
-ghost use Rattle.lottery_peel.specs.Peeling.{IsPeeling, unwhole_count};
+ghost use Rattle.lottery_peel.specs.Peeling.{IsPeeled, unwhole_count};
 
 use crate::next::next_of;
 use crate::taking::rest_of;
@@ -20,7 +21,8 @@ use std::alloc::{AllocError, Global};
 fn pieces_of(alloc: Global, rules: &Rules, shares: &Shares) -> Result<Vec<Piece>, AllocError>
     requires plain { Plain rules.now }
     requires fit { SharesFit rules.now EveryPair shares.now }
-    ensures { IfOk result (λ pieces. (rest : List ℕ) × IsPeeling rules.now shares.now 0 rest pieces.items) }
+    ensures peeled { IfOk result (λ pieces. IsPeeled rules.now shares.now pieces.items) }
+    ensures kept { AreRules rules.now }
 {
     let pairs = rules.pairs().len();
     let mut pieces = Vec::new(alloc);
