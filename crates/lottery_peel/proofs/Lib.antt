@@ -3,3 +3,4 @@ pub mod FlowSteps
 pub mod GoodSteps
 pub mod LoopLaws
 pub mod OneAmount
+pub mod PeeledLaws
