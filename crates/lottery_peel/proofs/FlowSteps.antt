@@ -1,5 +1,5 @@
 -- The flow of amounts at a step: what is given of the pairs is given of their sums.
-use Rattle.std.proofs.Common.{◌≡◌, ℕ, zero, suc, ◌+◌, ◌*◌, ◌%◌, ◌<◌, ◌≤◌, Bool, true, false, List, length, refl, sym, ap, ◌∙◌, subst, arith}
+use Rattle.std.proofs.Common.{◌≡◌, ℕ, zero, suc, ◌+◌, ◌*◌, ◌<◌, ◌≤◌, Bool, true, false, List, length, refl, sym, ap, ◌∙◌, subst, arith}
 use Rattle.std.specs.Prelude.{◌==◌, slice_index}
 use Rattle.std.proofs.lemmas.List.{length-take-le}
 use Rattle.std.proofs.Math.Nat.{mul-mod_right}
@@ -12,7 +12,6 @@ use Rattle.bounded_network.specs.Compile.{amounts_in, flow_of}
 use Rattle.bounded_network.specs.Spans.{AreWithin, IsBetween, rounded, rounded_spans}
 use Rattle.bounded_network.proofs.Compiled.{amount-in, flow-of_pair, flow-of_paper, flow-of_group, flow-of_reviewer}
 use Rattle.bounded_network.proofs.Counts.{count_below-zero}
-use Rattle.bounded_network.proofs.Nodes.{paper_flow, group_flow, reviewer_flow}
 use Rattle.bounded_network.proofs.Parts.{length-four, each-four, count_in_four}
 use Rattle.lottery_peel.specs.Peeling.{open_part, open_count, unwhole_count, AreRounded, AreLess, IsNext, IsWeight}
 use Rattle.lottery_peel.proofs.AmountLists.{all-enough}

@@ -32,8 +32,9 @@ unwhole_count rules shares =
     + count_below (group_count rules) (λ g. open_part rules.tickets (group_shares rules shares g)))
     + count_below (length rules.reviewers) (λ r. open_part rules.tickets (reviewer_shares rules shares r))
 
--- for how many tickets a count may stand: an amount that is rounded down until the rest would be more than a next count
--- can be, one that is rounded up until nothing is left over, and a multiple for all tickets
+-- for how many of the tickets that are left a count may stand. A multiple stays for all of them. Of another amount as many
+-- tickets as are over the multiple need one count more: a count that is rounded up may stand for these, and one that is
+-- rounded down for the others.
 abbrev pub limit : ℕ → ℕ → ℕ → ℕ
 limit left amount count =
     if amount % left == 0 then left else (if count == amount / left then (left - amount % left) else (amount % left))
