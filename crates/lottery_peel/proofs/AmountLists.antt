@@ -1,10 +1,10 @@
 -- Lists of amounts at a step.
-use Rattle.std.proofs.Common.{◌≡◌, ℕ, zero, suc, ◌+◌, ◌*◌, ◌<◌, ◌≤◌, List, length, sym, arith, inl, inr}
+use Rattle.std.proofs.Common.{◌≡◌, ℕ, zero, suc, ◌+◌, ◌*◌, ◌<◌, ◌≤◌, List, length, arith, inl, inr}
 use Rattle.std.specs.Prelude.{slice_index}
 use Rattle.std.proofs.lemmas.Bool.{cases_eq}
 use Rattle.match_rules.specs.Sums.{count_below}
-use Rattle.bounded_network.specs.Spans.{IsBetween, rounded}
-use Rattle.lottery_peel.specs.Peeling.{open_part, open_count, limit, AreRounded, IsWeight, AreLess, IsNarrower}
+use Rattle.bounded_network.specs.Spans.{rounded}
+use Rattle.lottery_peel.specs.Peeling.{open_part, open_count, AreRounded, IsWeight, AreLess, IsNarrower}
 use Rattle.lottery_peel.proofs.OneAmount.{IsStep, IsSettled, narrower-next, nothing-left, settled-next, enough}
 
 -- amounts with counts that stand for as many tickets as they may, the tickets that are left then, and the new amounts
@@ -52,11 +52,13 @@ pub limiting : (left : ℕ) (amounts counts : List ℕ) (weight next : ℕ) (new
     → (a : ℕ) × IsLimiting left amounts counts next new a
 limiting left amounts counts weight next new steps some = elim steps.weighs.reached [
   | inl all ↦ absurd (let tickets = steps.tickets in omega arith)
-  | inr at ↦
-      (at.0, record {
-        within = at.1.0;
-        settled = settled-next left (slice_index amounts at.0) (slice_index counts at.0) weight next (slice_index new at.0) (step-at left amounts counts weight next new steps at.0 at.1.0) some at.1.1;
-      })
+  | inr at ↦ (
+    at.0,
+    record {
+      within = at.1.0;
+      settled = settled-next left (slice_index amounts at.0) (slice_index counts at.0) weight next (slice_index new at.0) (step-at left amounts counts weight next new steps at.0 at.1.0) some at.1.1;
+    },
+  )
 ]
 
 -- a sum of which a term is less, and none more

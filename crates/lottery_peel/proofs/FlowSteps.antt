@@ -1,5 +1,5 @@
 -- The flow of amounts at a step: what is given of the pairs is given of their sums.
-use Rattle.std.proofs.Common.{◌≡◌, ℕ, zero, suc, ◌+◌, ◌*◌, ◌%◌, ◌<◌, Bool, true, false, List, length, refl, sym, ap, ◌∙◌, subst, arith}
+use Rattle.std.proofs.Common.{◌≡◌, ℕ, zero, suc, ◌+◌, ◌*◌, ◌<◌, ◌≤◌, Bool, true, false, List, length, refl, sym, ap, ◌∙◌, subst, arith}
 use Rattle.std.specs.Prelude.{◌==◌, slice_index}
 use Rattle.std.proofs.lemmas.List.{length-take-le}
 use Rattle.std.proofs.Math.Nat.{mul-mod_right}
@@ -12,9 +12,9 @@ use Rattle.bounded_network.specs.Compile.{amounts_in, flow_of}
 use Rattle.bounded_network.specs.Spans.{AreWithin, IsBetween, rounded, rounded_spans}
 use Rattle.bounded_network.proofs.Compiled.{amount-in, flow-of_pair, flow-of_paper, flow-of_group, flow-of_reviewer}
 use Rattle.bounded_network.proofs.Counts.{count_below-zero}
-use Rattle.bounded_network.proofs.Nodes.{paper_flow, group_flow, reviewer_flow}
 use Rattle.bounded_network.proofs.Parts.{length-four, each-four, count_in_four}
-use Rattle.lottery_peel.specs.Peeling.{open_part, open_count, unwhole_count, AreRounded, AreLess, IsNext}
+use Rattle.lottery_peel.specs.Peeling.{open_part, open_count, unwhole_count, AreRounded, AreLess, IsNext, IsWeight}
+use Rattle.lottery_peel.proofs.AmountLists.{all-enough}
 
 -- one amount for each pair, paper, group and reviewer
 pub flow-length : (rules : RulesValue) (amounts : List ℕ) → length (flow_of rules amounts) ≡ ((length rules.pairs + length rules.papers) + group_count rules) + length rules.reviewers
@@ -109,6 +109,15 @@ next-of_within rules rest left counts within flows =
       };
       flows = flows;
     }
+
+-- there is enough of each pair for the counts of a next assignment, for as many tickets as it may stand
+pub next-enough : (rules : RulesValue) (rest : List ℕ) (left : ℕ) (counts : List ℕ) (weight : ℕ) → length rest ≡ length rules.pairs → IsNext rules rest left counts
+    → IsWeight left (flow_of rules rest) counts (length (flow_of rules rest)) weight → (e : ℕ) → e < length rest → weight * slice_index (amounts_in rules counts) e ≤ slice_index rest e
+next-enough rules rest left counts weight long is weighs e lt =
+    let pair : e < length rules.pairs = omega arith in
+    let size = flow-length rules rest in
+    let enough = all-enough left (flow_of rules rest) counts weight is.rounds weighs e (omega arith) in
+    rw (amount-in rules counts e pair) (rw (flow-of_pair rules rest e pair) at enough)
 
 -- ---- open amounts
 

@@ -1,10 +1,9 @@
 -- Counts that are rounded from shares that fit are those of an assignment that meets the rules.
-use Rattle.std.proofs.Common.{◌≡◌, ℕ, ◌+◌, ◌*◌, ◌/◌, ◌%◌, ◌<◌, ◌≤◌, min, Bool, true, false, List, length, refl, sym, ◌∙◌, arith, inl, inr}
+use Rattle.std.proofs.Common.{◌≡◌, ℕ, ◌+◌, ◌*◌, ◌/◌, ◌%◌, ◌<◌, ◌≤◌, true, List, length, arith, inl, inr}
 use Rattle.std.specs.Prelude.{slice_index}
 use Rattle.std.proofs.lemmas.Bool.{cases_eq, cases_lt, eqb-true}
 use Rattle.std.proofs.lemmas.Nat.{le-div}
 use Rattle.std.proofs.Math.Nat.{div-add-mod, mul-le-mul_left}
-use Rattle.match_rules.specs.declared.answer.Sieve.{Sieve}
 use Rattle.match_rules.specs.declared.answer.Sieve.TheVariants.{All as EveryPair}
 use Rattle.match_rules.specs.Rules.{RulesValue, AreRules, pair_at, paper_at, reviewer_at, is_locked}
 use Rattle.match_rules.specs.Answers.{IsRounding}

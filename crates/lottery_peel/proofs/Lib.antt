@@ -3,6 +3,6 @@ pub mod FlowSteps
 pub mod GoodSteps
 pub mod LoopLaws
 pub mod OneAmount
-pub mod Sorting
+pub mod PeeledLaws
 pub mod Takings
 pub mod Weighing

@@ -1,10 +1,9 @@
 -- The loop that makes pieces of shares: its invariant at the start, after a step, and at the end.
-use Rattle.std.proofs.Common.{◌≡◌, ℕ, zero, suc, ◌+◌, ◌*◌, ◌<◌, ◌≤◌, Bool, true, false, List, [], ◌∷◌, ◌++◌, length, get_or, refl, sym, ap, ◌∙◌, subst, arith, inl, inr}
-use Rattle.std.specs.Prelude.{All, slice_index}
+use Rattle.std.proofs.Common.{◌≡◌, ℕ, zero, suc, ◌*◌, ◌<◌, ◌≤◌, false, List, [], ◌∷◌, ◌++◌, length, get_or, refl, sym, ap, ◌∙◌, subst, arith, inl, inr}
+use Rattle.std.specs.Prelude.{slice_index}
 use Rattle.std.specs.Cmp.Lexicographic.{slice_cmp}
 use Rattle.std.specs.List.{IsDistinct}
 use Rattle.std.specs.Ordering.{nat_cmp, is_eq}
-use Rattle.std.specs.Str.{bytes_eq}
 use Rattle.std.proofs.Math.Nat.{div-one}
 use Rattle.std.proofs.lemmas.Bool.{cases_Bool, cases_lt}
 use Rattle.std.proofs.lemmas.Grind.{same_number_lists}
@@ -17,9 +16,8 @@ use Rattle.std.proofs.lemmas.Slice.Eq.{bytes_eq-Decides}
 use Rattle.match_rules.specs.declared.answer.Sieve.TheVariants.{All as EveryPair}
 use Rattle.match_rules.specs.declared.lottery.Piece.{Piece}
 use Rattle.match_rules.specs.Answers.{Rounded}
-use Rattle.match_rules.specs.Assignments.{holds, tickets, times}
+use Rattle.match_rules.specs.Assignments.{holds}
 use Rattle.match_rules.specs.Chosen.{chosen_places, AreChoices, CountsMeet, CountsRound}
-use Rattle.match_rules.specs.Groups.{group_count}
 use Rattle.match_rules.specs.Pieces.{piece_at, no_piece}
 use Rattle.match_rules.specs.Rules.{RulesValue, AreRules}
 use Rattle.match_rules.specs.SharesFit.{SharesFit, group_shares, reviewer_shares}
@@ -27,7 +25,7 @@ use Rattle.match_rules.proofs.ChosenLaws.{chosen_places-ascends, chosen-meets, c
 use Rattle.bounded_network.specs.Compile.{amounts_in, flow_of}
 use Rattle.bounded_network.specs.Spans.{AreWithin, rounded, rounded_spans}
 use Rattle.bounded_network.proofs.Compiled.{flow-of_pair}
-use Rattle.lottery_peel.specs.Peeling.{open_count, unwhole_count, AreRounded, AreLess, IsNext, IsNarrower, IsGoodPiece, same_places, IsPeeling, IsStepTo, IsPeeled}
+use Rattle.lottery_peel.specs.Peeling.{AreRounded, IsNext, IsNarrower, IsGoodPiece, same_places, IsPeeling, IsStepTo, IsPeeled}
 use Rattle.lottery_peel.proofs.AmountLists.{AreSteps, all-narrower, all-nothing, open-less, never-again, rounded-before}
 use Rattle.lottery_peel.proofs.FlowSteps.{flow-length, flow-less, flow-open, within-rounded}
 use Rattle.lottery_peel.proofs.GoodSteps.{meet-within, round-within, some-tickets}

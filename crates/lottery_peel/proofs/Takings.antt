@@ -1,12 +1,10 @@
--- What is taken off shares, one pair at a time.
+-- What a next assignment takes off shares, one pair at a time.
 use Rattle.std.proofs.Common.{◌≡◌, ℕ, ◌+◌, ◌*◌, ◌<◌, ◌≤◌, List, length, arith}
 use Rattle.std.specs.Prelude.{slice_index}
 use Rattle.std.proofs.lemmas.List.{length-take-le}
 use Rattle.match_rules.specs.Rules.{RulesValue}
-use Rattle.bounded_network.specs.Compile.{amounts_in, flow_of}
-use Rattle.bounded_network.proofs.Compiled.{amount-in, flow-of_pair}
-use Rattle.lottery_peel.specs.Peeling.{IsNext, IsWeight}
-use Rattle.lottery_peel.proofs.AmountLists.{all-enough}
+use Rattle.bounded_network.specs.Compile.{amounts_in}
+use Rattle.lottery_peel.specs.Peeling.{IsNext}
 use Rattle.lottery_peel.proofs.FlowSteps.{flow-length}
 
 -- the tickets of the pairs below a place are taken, and the others are as they were
@@ -21,14 +19,3 @@ chosen-length rules rest left counts next =
     let size = flow-length rules rest in
     let long = next.rounds.long in
     length-take-le (length rules.pairs) counts (omega arith)
-
--- each pair has enough tickets left for the weight of a next assignment
-pub pairs-enough : (rules : RulesValue) (rest : List ℕ) (left : ℕ) (counts : List ℕ) (weight : ℕ) → length rest ≡ length rules.pairs → IsNext rules rest left counts
-    → IsWeight left (flow_of rules rest) counts (length (flow_of rules rest)) weight → (e : ℕ) → e < length rest
-    → weight * slice_index (amounts_in rules counts) e ≤ slice_index rest e
-pairs-enough rules rest left counts weight long next weighs e lt =
-    let size = flow-length rules rest in
-    let pair : e < length rules.pairs = omega arith in
-    let enough : weight * slice_index counts e ≤ slice_index (flow_of rules rest) e =
-    all-enough left (flow_of rules rest) counts weight next.rounds weighs e (omega arith) in
-    rw (amount-in rules counts e pair) (rw (flow-of_pair rules rest e pair) at enough)

@@ -32,8 +32,9 @@ unwhole_count rules shares =
     + count_below (group_count rules) (λ g. open_part rules.tickets (group_shares rules shares g)))
     + count_below (length rules.reviewers) (λ r. open_part rules.tickets (reviewer_shares rules shares r))
 
--- for how many tickets a count may stand: an amount that is rounded down until the rest would be more than a next count
--- can be, one that is rounded up until nothing is left over, and a multiple for all tickets
+-- for how many of the tickets that are left a count may stand: that of a multiple for all of them, and another until what is
+-- left of the amount is a multiple again. As many tickets as are over need one count more, so a count that is rounded up may
+-- stand for these, and one that is rounded down for the others.
 abbrev pub limit : ℕ → ℕ → ℕ → ℕ
 limit left amount count =
     if amount % left == 0 then left else (if count == amount / left then (left - amount % left) else (amount % left))
@@ -56,8 +57,8 @@ pub record AreLess (old counts new : List ℕ) (weight : ℕ) : Type 0 where
   pub same : length counts ≡ length old
   pub each : (a : ℕ) → a < length old → slice_index new a + weight * slice_index counts a ≡ slice_index old a
 
--- counts of a whole assignment of the amounts that are left: those of pairs, papers, groups and reviewers are rounded,
--- and each of the others is the sum of its pairs
+-- counts of a whole assignment of the amounts that are left: those of pairs, papers, groups and reviewers are rounded, and
+-- those of papers, groups and reviewers are the sums of their pairs' counts
 pub record IsNext (rules : RulesValue) (rest : List ℕ) (left : ℕ) (counts : List ℕ) : Type 0 where
   pub rounds : AreRounded left (flow_of rules rest) counts
   pub flows : counts ≡ flow_of rules (amounts_in rules counts)

@@ -4,8 +4,9 @@ use Rattle.match_rules.specs.Chosen.{chosen_places}
 use Rattle.match_rules.specs.Rules.{RulesValue}
 use Rattle.bounded_network.specs.Compile.{amounts_in, flow_of}
 use Rattle.lottery_peel.specs.Peeling.{AreLess, IsStepTo, IsWeight}
+use Rattle.lottery_peel.proofs.FlowSteps.{next-enough}
 use Rattle.lottery_peel.proofs.LoopLaws.{peeling_first, peeling_more, peeling_all}
-use Rattle.lottery_peel.proofs.Takings.{chosen-length, pairs-enough}
+use Rattle.lottery_peel.proofs.Takings.{chosen-length}
 use Rattle.lottery_peel.proofs.peeling.pieces_of.Goals as goal
 
 pub loop-left-init : goal.loop-left-init
@@ -31,7 +32,7 @@ rest_of-rest-requires-clause-enough c =
     let weighs : IsWeight c.loop-left.left (flow_of all rest) counts (length (flow_of all rest)) c.weight_of-weight.result =
     rw (c.as_slice.ensures.value, c.in_ok-amounts.ensures, c.as_slice-in-loop-left.ensures.value) at c.weight_of-weight.ensures in
     rw (c.pairs-pairs.ensures.value, c.deref.ensures.value)
-    (pairs-enough all rest c.loop-left.left counts c.weight_of-weight.result c.loop-left.invariant.long c.in_ok-counts.ensures weighs)
+    (next-enough all rest c.loop-left.left counts c.weight_of-weight.result c.loop-left.invariant.long c.in_ok-counts.ensures weighs)
 
 pub loop-left-preserved : goal.loop-left-preserved
 loop-left-preserved c =
