@@ -25,7 +25,10 @@ pub fn next_of(
     let amounts = Amounts::Rounded { shares: rest, left };
     let network = compile(alloc, rules, Sieve::All, amounts)?;
     match solve(alloc, &network)? {
-        Solution::Solved { flow, potentials: _ } => Ok(flow),
+        Solution::Solved {
+            flow,
+            potentials: _,
+        } => Ok(flow),
         Solution::Unsat { marks: _ } => unreachable!(),
     }
 }

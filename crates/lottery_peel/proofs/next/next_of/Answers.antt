@@ -2,7 +2,7 @@ use Rattle.std.proofs.Common.{List, ℕ}
 use Rattle.match_rules.specs.Rules.{RulesValue}
 use Rattle.bounded_network.specs.Compile.{Compiles, network_of}
 use Rattle.bounded_network.specs.Network.{NetworkValue, IsCirculation}
-use Rattle.bounded_network.specs.Spans.{Spans, rounded_spans}
+use Rattle.bounded_network.specs.Spans.{rounded_spans}
 use Rattle.lottery_peel.proofs.FlowSteps.{next-of_within}
 use Rattle.lottery_peel.proofs.next.next_of.Goals as goal
 

@@ -1,4 +1,4 @@
-use Rattle.std.proofs.Common.{◌≡◌, ℕ, ◌+◌, ◌-◌, ◌≤◌, List, length, sym, ◌∙◌, arith}
+use Rattle.std.proofs.Common.{◌≡◌, ℕ, ◌+◌, ◌-◌, List, length, sym, ◌∙◌, arith}
 use Rattle.match_rules.specs.declared.lottery.Piece.{Piece}
 use Rattle.match_rules.specs.Chosen.{chosen_places}
 use Rattle.match_rules.specs.Rules.{RulesValue}
