@@ -1,13 +1,16 @@
 -- Sums that a loop over the pairs adds up, one amount at a time.
-use Rattle.std.proofs.Common.{◌≡◌, ℕ, suc, ◌+◌, ◌^◌, ◌<◌, ◌≤◌, Bool, true, false, List, length, get_or, set, replicate, refl, sym, ap, ◌∙◌, arith, inl, inr, get_or-set_other, get_or-set_same}
+use Rattle.std.proofs.Common.{◌≡◌, ℕ, suc, ◌+◌, ◌^◌, ◌<◌, ◌≤◌, Bool, true, false, List, ◌++◌, length, get_or, set, replicate, refl, sym, ap, ◌∙◌, arith, inl, inr, get_or-set_other, get_or-set_same}
 use Rattle.std.specs.Prelude.{◌==◌, slice_index}
 use Rattle.std.proofs.Math.ListN.{length-set}
 use Rattle.std.proofs.lemmas.Bool.{cases_eq, eq-eqb, ne_eqb}
 use Rattle.std.proofs.lemmas.Grind.{same_number_lists}
 use Rattle.std.proofs.lemmas.List.{get_or-replicate, length-replicate}
+use Rattle.match_rules.specs.Rules.{RulesValue}
 use Rattle.match_rules.specs.Sums.{count_below, when}
 use Rattle.bounded_network.specs.declared.network.TheConstants.{MAX_ROOM}
-use Rattle.bounded_network.specs.Compile.{listed}
+use Rattle.bounded_network.specs.declared.totals.Totals.{Totals}
+use Rattle.bounded_network.specs.Compile.{listed, flow_of}
+use Rattle.bounded_network.specs.Totals.{AreSums}
 use Rattle.bounded_network.proofs.Sums.{count_below-at_most}
 use Rattle.bounded_network.proofs.Parts.{length-listed, listed-at}
 
@@ -71,3 +74,19 @@ tally-all count test amount n totals tally =
     let f : ℕ → ℕ = λ v. count_below n (λ e. when (test v e) (amount e)) in
     same_number_lists totals (listed count f) (tally.long ∙ sym (length-listed count f))
     (λ v lt. let b : v < count = omega (arith, tally.long) in tally.sums v b ∙ sym (listed-at count v f 0 b))
+
+-- the shares of all pairs, by their places
+shares-listed : (n : ℕ) (shares : List ℕ) → length shares ≡ n → shares ≡ listed n (slice_index shares)
+shares-listed n shares long =
+    same_number_lists shares (listed n (slice_index shares)) (long ∙ sym (length-listed n (slice_index shares)))
+    (λ e lt. sym (listed-at n e (slice_index shares) 0 (omega arith)))
+
+-- the shares and their sums, joined, are the flow of the shares
+pub joined-flow : (rules : RulesValue) (shares : List ℕ) (totals : Totals) (amounts : List ℕ) → length shares ≡ length rules.pairs → AreSums rules shares totals
+    → amounts ≡ ((shares ++ totals.papers.items) ++ totals.of_groups.items) ++ totals.reviewers.items
+    → amounts ≡ flow_of rules shares
+joined-flow rules shares totals amounts long sums joined =
+    let pairs = shares-listed (length rules.pairs) shares long in
+    let parts : (List ℕ) → List ℕ = λ front. ((front ++ totals.papers.items) ++ totals.of_groups.items) ++ totals.reviewers.items in
+    let whole : parts (listed (length rules.pairs) (slice_index shares)) ≡ flow_of rules shares = rw (sums.papers, sums.of_groups, sums.reviewers) refl in
+    joined ∙ ap parts pairs ∙ whole

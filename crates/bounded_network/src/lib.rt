@@ -24,3 +24,4 @@ pub use evidence::{optimal_is_cheapest, violated_excludes};
 pub use examples::worked_networks;
 pub use network::{Arc, MAX_ARCS, MAX_COST, MAX_NODES, MAX_ROOM, Network};
 pub use spans::{Amounts, Span};
+pub use totals::amounts_of;

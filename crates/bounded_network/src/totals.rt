@@ -1,15 +1,15 @@
-// The sums of shares that rounded bounds are made of.
+// The sums of shares that rounded bounds are made of, and the flow of shares.
 
 ghost use Rattle.std.specs.Prelude.{◌≡◌, ◌+◌, ◌<◌, ◌≤◌, length, IfOk, slice_index, slice_set};
 ghost use Rattle.match_rules.specs.Groups.{group_count};
 ghost use Rattle.match_rules.specs.SharesFit.{paper_shares, group_shares, reviewer_shares};
 ghost use Rattle.bounded_network.specs.declared.network.TheConstants.{MAX_ROOM};
-ghost use Rattle.bounded_network.specs.Compile.{listed};
+ghost use Rattle.bounded_network.specs.Compile.{listed, flow_of};
 ghost use Rattle.bounded_network.specs.Spans.{CanDivide};
-ghost use Rattle.bounded_network.specs.Totals.{AreWords, AreTotals};
+ghost use Rattle.bounded_network.specs.Totals.{AreWords, AreSums, AreTotals};
 
 use crate::spans::Amounts;
-use match_rules::Rules;
+use match_rules::{Rules, Shares};
 use std::alloc::{AllocError, Global};
 
 /// The sums of the papers, groups and reviewers by their places, where amounts are rounded; nothing for tickets.
@@ -70,6 +70,18 @@ fn of_reviewers(alloc: Global, rules: &Rules, shares: &[u32]) -> Result<Vec<u64>
     Ok(totals)
 }
 
+// All sums.
+fn sums_of(alloc: Global, rules: &Rules, shares: &[u32]) -> Result<Totals, AllocError>
+    requires { length shares.now ≡ length rules.now.pairs }
+    ensures { IfOk result (AreSums rules.now shares.now) }
+{
+    Ok(Totals {
+        papers: of_papers(alloc, rules, shares)?,
+        of_groups: of_groups(alloc, rules, shares)?,
+        reviewers: of_reviewers(alloc, rules, shares)?,
+    })
+}
+
 /// The sums that the bounds of such amounts are made of.
 pub fn totals_of(alloc: Global, rules: &Rules, amounts: Amounts) -> Result<Totals, AllocError>
     requires { CanDivide rules.now amounts }
@@ -81,13 +93,26 @@ pub fn totals_of(alloc: Global, rules: &Rules, amounts: Amounts) -> Result<Total
             of_groups: Vec::new(alloc),
             reviewers: Vec::new(alloc),
         }),
-        Amounts::Rounded { shares, left: _ } => {
-            let shares = shares.as_slice();
-            Ok(Totals {
-                papers: of_papers(alloc, rules, shares)?,
-                of_groups: of_groups(alloc, rules, shares)?,
-                reviewers: of_reviewers(alloc, rules, shares)?,
-            })
-        }
+        Amounts::Rounded { shares, left: _ } => sums_of(alloc, rules, shares.as_slice()),
     }
+}
+
+/// The flow of shares: the amounts of all pairs, papers, groups and reviewers, at the places of their arcs. A pair's is its
+/// share, and the others' are the sums of their pairs.
+///
+/// Time and memory are linear in pairs, papers, groups and reviewers.
+pub fn amounts_of(alloc: Global, rules: &Rules, shares: &Shares) -> Result<Vec<u64>, AllocError>
+    requires { length shares.now ≡ length rules.now.pairs }
+    ensures { IfOk result (λ amounts. amounts.items ≡ flow_of rules.now shares.now) }
+{
+    let of_pairs = shares.as_slice();
+    let sums = sums_of(alloc, rules, of_pairs)?;
+    let mut amounts = Vec::new(alloc);
+    for share in of_pairs {
+        amounts.push(u64::from(*share))?;
+    }
+    amounts.extend_from_slice(sums.papers.as_slice())?;
+    amounts.extend_from_slice(sums.of_groups.as_slice())?;
+    amounts.extend_from_slice(sums.reviewers.as_slice())?;
+    Ok(amounts)
 }
