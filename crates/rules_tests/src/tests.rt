@@ -12,7 +12,9 @@ fn papers(alloc: Global) -> Result<Vec<RulePaper>, AllocError> {
     let Ok(id) = PaperId::read(alloc, "p1") else {
         return Err(AllocError);
     };
-    vec![in alloc; RulePaper { id, demand: 1 }]
+    let mut papers = Vec::new(alloc);
+    papers.push(RulePaper { id, demand: 1 })?;
+    Ok(papers)
 }
 
 fn institution(alloc: Global) -> Result<Option<Institution>, AllocError> {
@@ -27,11 +29,25 @@ fn reviewers(alloc: Global) -> Result<Vec<RuleReviewer>, AllocError> {
     let Ok(id) = ReviewerId::read(alloc, "r1") else {
         return Err(AllocError);
     };
-    vec![in alloc; RuleReviewer { id, institution, least: 0, greatest: 1 }]
+    let mut reviewers = Vec::new(alloc);
+    reviewers.push(RuleReviewer {
+        id,
+        institution,
+        least: 0,
+        greatest: 1,
+    })?;
+    Ok(reviewers)
 }
 
 fn pairs(alloc: Global) -> Result<Vec<RulePair>, AllocError> {
-    vec![in alloc; RulePair { paper: 0, reviewer: 0, score: 500_000, floor: 0, cap: 10_000 }]
+    let pair = RulePair {
+        paper: 0,
+        reviewer: 0,
+        score: 500_000,
+        floor: 0,
+        cap: 10_000,
+    };
+    Vec::from_slice(alloc, &[pair])
 }
 
 // One paper, one reviewer of an institution, and their pair.
@@ -46,7 +62,7 @@ fn rules(alloc: Global) -> Result<Rules, AllocError> {
 }
 
 fn places(alloc: Global) -> Result<Places, AllocError> {
-    Ok(Places::from_vec(vec![in alloc; 0]?))
+    Ok(Places::from_vec(Vec::from_slice(alloc, &[0])?))
 }
 
 fn cut(alloc: Global) -> Result<Cut, AllocError> {
@@ -59,7 +75,7 @@ fn cut(alloc: Global) -> Result<Cut, AllocError> {
 }
 
 fn price(alloc: Global) -> Result<PriceList, AllocError> {
-    Ok(PriceList::from_vec(vec![in alloc; 0]?))
+    Ok(PriceList::from_vec(Vec::from_slice(alloc, &[0])?))
 }
 
 fn prices(alloc: Global) -> Result<Prices, AllocError> {
@@ -73,12 +89,16 @@ fn prices(alloc: Global) -> Result<Prices, AllocError> {
 // All tickets for the pair.
 fn lottery(alloc: Global) -> Result<Lottery, AllocError> {
     let pairs = chosen_places(alloc, &[1])?;
-    let pieces = vec![in alloc; Piece { weight: 10_000, pairs }]?;
+    let mut pieces = Vec::new(alloc);
+    pieces.push(Piece {
+        weight: 10_000,
+        pairs,
+    })?;
     Lottery::new(pieces).ok().ok_or(AllocError)
 }
 
 fn winning(alloc: Global) -> Result<Answer, AllocError> {
-    let shares = Shares::from_vec(vec![in alloc; 10_000]?);
+    let shares = Shares::from_vec(Vec::from_slice(alloc, &[10_000])?);
     let lottery = lottery(alloc)?;
     let prices = prices(alloc)?;
     let cut = cut(alloc)?;
