@@ -1,7 +1,7 @@
 // The two sums of a cut.
 
 /// What has to pass a cut and what may, in tickets.
-#[derive(Debug, Clone, Copy, PartialEq, Eq)]
+#[derive(Clone, Copy)]
 pub struct Excess {
     /// What has to pass.
     pub need: u64,

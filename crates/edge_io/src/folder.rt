@@ -25,7 +25,7 @@ pub enum FileRead {
 }
 
 /// Why a file wasn't read.
-#[derive(Clone, Copy, Debug, PartialEq, Eq)]
+#[derive(Clone, Copy)]
 pub enum FolderFault {
     /// The folder failed.
     Failed,

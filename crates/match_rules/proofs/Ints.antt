@@ -94,3 +94,15 @@ most_at-times least greatest factor z =
     let one = times_more factor (pos least *ℤ z) (most_at least greatest z) first in
     let two = times_more factor (pos greatest *ℤ z) (most_at least greatest z) second in
     omega (arith, ints, clamps)
+
+-- a product is within the product of its factors' limits
+pub times_within : (n limit most : ℕ) (z : ℤ) → n ≤ limit → neg_ℤ (pos most) ≤ℤ z → z ≤ℤ pos most
+    → ((neg_ℤ (pos (limit * most)) ≤ℤ (pos n *ℤ z)) × ((pos n *ℤ z) ≤ℤ pos (limit * most)))
+times_within n limit most z few low high =
+    let none : 0 ≤ n = omega arith in
+    let up : (pos n *ℤ z) ≤ℤ most_at 0 limit z = between 0 n limit z none few in
+    let down : (pos n *ℤ neg_ℤ z) ≤ℤ most_at 0 limit (neg_ℤ z) = between 0 n limit (neg_ℤ z) none few in
+    let above : neg_ℤ z ≤ℤ pos most = omega (arith, ints) in
+    let top : (pos limit *ℤ z) ≤ℤ pos (limit * most) = times_more limit z (pos most) high in
+    let bottom : (pos limit *ℤ neg_ℤ z) ≤ℤ pos (limit * most) = times_more limit (neg_ℤ z) (pos most) above in
+    (omega (arith, ints, clamps, times_neg n z, zero-*ℤ z, zero-*ℤ (neg_ℤ z)), omega (arith, ints, clamps, zero-*ℤ z))

@@ -13,7 +13,7 @@ pub const MOST_PRICE: u64 = 10_000_000_000_000_000;
 pub const MOST_TOTAL: u64 = 1_000_000_000_000_000_000;
 
 /// What was asked for.
-#[derive(Debug, Clone, Copy, PartialEq, Eq)]
+#[derive(Clone, Copy)]
 pub enum Mode {
     /// A lottery of greatest expected score.
     Whole,
@@ -22,7 +22,7 @@ pub enum Mode {
 }
 
 /// On which side of the marked nodes a cut counts.
-#[derive(Debug, Clone, Copy, PartialEq, Eq)]
+#[derive(Clone, Copy)]
 pub enum Side {
     /// What has to enter the marked nodes is more than may leave them.
     Into,
@@ -31,7 +31,7 @@ pub enum Side {
 }
 
 /// Which candidate pairs are kept; every sieve keeps the locked pairs.
-#[derive(Debug, Clone, Copy, PartialEq, Eq)]
+#[derive(Clone, Copy)]
 pub enum Sieve {
     /// All pairs.
     All,
@@ -173,10 +173,10 @@ impl Winning {
     pub fn copy(&self, alloc: Global) -> Result<Self, AllocError>
         ensures { IfOk result (λ copy. copy ≡ self.now) }
     {
-        let level = self.level.copy(alloc)?;
-        let prices = self.prices.copy(alloc)?;
         let shares = self.shares.copy(alloc)?;
         let lottery = self.lottery.copy(alloc)?;
+        let prices = self.prices.copy(alloc)?;
+        let level = self.level.copy(alloc)?;
         Ok(Winning {
             mode: self.mode,
             level,

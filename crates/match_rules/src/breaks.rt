@@ -1,7 +1,7 @@
 // What may be wrong with an answer.
 
 /// A broken clause of the check, with its numbers. Pieces, pairs, papers, groups and reviewers are places.
-#[derive(Debug, Clone, Copy, PartialEq, Eq)]
+#[derive(Clone, Copy)]
 pub enum Break {
     /// Clause 1: the weights don't sum to the tickets.
     Tickets {

@@ -16,7 +16,7 @@ use std::marker::Model;
 pub const MOST_ID_BYTES: usize = 128;
 
 /// Why a text was not taken as an id.
-#[derive(Debug, Clone, Copy, PartialEq, Eq)]
+#[derive(Clone, Copy)]
 pub enum IdFault {
     /// The text isn't an id.
     BadId,

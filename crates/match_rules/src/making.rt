@@ -1,6 +1,6 @@
 // Rules made from their parts.
 
-ghost use Rattle.std.specs.Prelude.{◌≡◌, ◌≤◌, [], length, IfOk, OnOk, IfErr};
+ghost use Rattle.std.specs.Prelude.{◌≡◌, ◌↔◌, ◌≤◌, [], length, IfOk, OnOk, IfErr, IfSome, IsNone};
 ghost use Rattle.match_rules.specs.Rules.{AreRules, locked_places, rules_value};
 ghost use Rattle.match_rules.specs.RulesFaults.{IsFaultOf};
 
@@ -25,6 +25,31 @@ fn locked_of(alloc: Global, pairs: &[RulePair]) -> Result<Vec<u32>, AllocError>
     Ok(places)
 }
 
+// What rules of a limit and three lists would be refused for.
+fn fault_of(
+    limit: u32,
+    papers: &[RulePaper],
+    reviewers: &[RuleReviewer],
+    pairs: &[RulePair],
+) -> Option<RulesFault>
+    ensures fault { IfSome result (λ fault. IsFaultOf fault (rules_value limit papers.now reviewers.now pairs.now)) }
+    ensures none { IsNone result ↔ AreRules (rules_value limit papers.now reviewers.now pairs.now) }
+{
+    if limit < 1 || limit > MOST_LIMIT {
+        return Some(RulesFault::Limit);
+    }
+    if let Some(place) = paper_fault(papers) {
+        return Some(RulesFault::Papers { place });
+    }
+    if let Some(place) = reviewer_fault(reviewers) {
+        return Some(RulesFault::Reviewers { place });
+    }
+    match pair_fault(papers.len(), reviewers.len(), pairs) {
+        Some(place) => Some(RulesFault::Pairs { place }),
+        None => None,
+    }
+}
+
 impl Rules {
     /// The rules of a limit and three lists. Papers and reviewers ascend by the bytes of their ids, pairs by the place
     /// of the paper and then that of the reviewer. A fault names the first place at which a list, up to and with it,
@@ -41,17 +66,8 @@ impl Rules {
         ensures fault { IfErr result (λ fault. IsFaultOf fault (rules_value limit papers.items reviewers.items pairs.items)) }
         ensures only { AreRules (rules_value limit papers.items reviewers.items pairs.items) → IfErr result (λ fault. fault ≡ RulesFault.Memory) }
     {
-        if limit < 1 || limit > MOST_LIMIT {
-            return Err(RulesFault::Limit);
-        }
-        if let Some(place) = paper_fault(papers.as_slice()) {
-            return Err(RulesFault::Papers { place });
-        }
-        if let Some(place) = reviewer_fault(reviewers.as_slice()) {
-            return Err(RulesFault::Reviewers { place });
-        }
-        if let Some(place) = pair_fault(papers.len(), reviewers.len(), pairs.as_slice()) {
-            return Err(RulesFault::Pairs { place });
+        if let Some(fault) = fault_of(limit, &papers, &reviewers, &pairs) {
+            return Err(fault);
         }
         match Rules::of_tested(alloc, limit, papers, reviewers, pairs) {
             Ok(rules) => Ok(rules),

@@ -153,7 +153,7 @@ impl Model for Rules {
 
 /// Why rules were refused: the first part, in the order limit, papers, reviewers, pairs, that breaks a condition, and
 /// its first place that does.
-#[derive(Debug, Clone, Copy, PartialEq, Eq)]
+#[derive(Clone, Copy)]
 pub enum RulesFault {
     /// The limit isn't 1 to 1,500.
     Limit,
@@ -283,11 +283,11 @@ impl Rules {
     pub fn copy(&self, alloc: Global) -> Result<Self, AllocError>
         ensures { IfOk result (λ copy. copy ≡ self.now) }
     {
-        let papers = copy_papers(alloc, self.papers.as_slice())?;
-        let reviewers = copy_reviewers(alloc, self.reviewers.as_slice())?;
         let pairs = Vec::from_slice(alloc, self.pairs.as_slice())?;
         let locked = Vec::from_slice(alloc, self.locked.as_slice())?;
         let groups = self.groups.copy(alloc)?;
+        let papers = copy_papers(alloc, self.papers.as_slice())?;
+        let reviewers = copy_reviewers(alloc, self.reviewers.as_slice())?;
         Ok(Rules {
             tickets: self.tickets,
             limit: self.limit,

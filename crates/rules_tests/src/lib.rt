@@ -1,4 +1,4 @@
-// Runs of the calls of `match_rules` and `dual_check` that take memory, since no clause says that memory is left.
+// Runs of calls of `match_rules` that take memory and that no program makes, since no clause says that memory is left.
 #![tactic(auto)]
 
 #[cfg(test)]
