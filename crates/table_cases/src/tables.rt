@@ -26,7 +26,7 @@ pub(crate) struct Tables {
 fn read<R: Drop>(read: Result<Vec<R>, ImportFault>) -> anyhow::Result<Vec<R>> {
     match read {
         Ok(rows) => Ok(rows),
-        Err(fault) => bail!("{fault:?}"),
+        Err(_) => bail!("the rows of a case have a fault"),
     }
 }
 
