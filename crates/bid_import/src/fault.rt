@@ -1,7 +1,7 @@
 use std::alloc::{AllocError, AllocFailed};
 
 /// The first key of the settings that is at fault.
-#[derive(Clone, Copy, PartialEq, Eq, Debug)]
+#[derive(Clone, Copy, Debug)]
 pub enum Key {
     Unknown,
     Limit,
@@ -15,7 +15,7 @@ pub enum Key {
 }
 
 /// What is wrong with a record or a file.
-#[derive(Clone, Copy, PartialEq, Eq, Debug)]
+#[derive(Clone, Copy, Debug)]
 pub enum Code {
     /// The file has more records than its limit, or a field more than 64 institutions.
     TooMany,
@@ -52,7 +52,7 @@ pub enum Code {
 }
 
 /// Why a file wasn't read.
-#[derive(Clone, Copy, PartialEq, Eq, Debug)]
+#[derive(Clone, Copy)]
 pub enum ImportFault {
     /// Memory was wanting.
     Memory,

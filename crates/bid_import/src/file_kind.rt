@@ -6,7 +6,7 @@ use roster::MOST_ROWS;
 use score_spec::MOST_PAIR_ROWS;
 
 /// The tables that are files of records.
-#[derive(Clone, Copy, PartialEq, Eq, Debug)]
+#[derive(Clone, Copy)]
 pub enum FileKind {
     Papers,
     Reviewers,

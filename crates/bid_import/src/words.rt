@@ -1,6 +1,6 @@
 // The bid words of a document of settings.
 
-ghost use Rattle.std.specs.Prelude.{◌≡◌, ◌≤ℤ◌, pos, neg_ℤ, ok_or, IfOk};
+ghost use Rattle.std.specs.Prelude.{◌≡◌, ◌≤ℤ◌, [], ◌∷◌, ◌++◌, pos, neg_ℤ, ok_or, IfOk, OnOk};
 ghost use Rattle.toml.specs.View.{view, table_view};
 ghost use Rattle.bid_import.specs.Documents.{ReadsKey, ReadsItems};
 ghost use Rattle.bid_import.specs.Settings.{AscendInBytes, bid_word, default_words, word_from, words_from, words_setting, entries, each};
@@ -47,16 +47,23 @@ fn words_of(alloc: Global, node: &toml::Value) -> Result<Words, KeyFault>
     Ok(Words::from_vec(all_words(alloc, table)?))
 }
 
-fn word(alloc: Global, text: &str, tenthousandths: i32) -> Result<BidWord, AllocError>
+// Puts a word with its value behind the others.
+fn push_word(
+    alloc: Global,
+    words: &mut Vec<BidWord>,
+    text: &str,
+    tenthousandths: i32,
+) -> Result<(), AllocError>
     requires low { neg_ℤ (pos 100000) ≤ℤ tenthousandths }
     requires high { tenthousandths ≤ℤ pos 100000 }
-    ensures { IfOk result (λ word. word ≡ bid_word text.now tenthousandths) }
+    ensures { OnOk result (words.new.items ≡ words.old.items ++ (bid_word text.now tenthousandths ∷ [])) }
 {
     let word = Text::read(alloc, text)?;
-    Ok(BidWord {
+    words.push(BidWord {
         word,
         value: Value::from_tenthousandths(tenthousandths),
-    })
+    })?;
+    Ok(())
 }
 
 /// The words of settings that have none.
@@ -64,11 +71,11 @@ pub(crate) fn default_words(alloc: Global) -> Result<Words, AllocError>
     ensures { IfOk result (λ words. words ≡ default_words) }
 {
     let mut words = Vec::new(alloc);
-    words.push(word(alloc, "High", 5_000)?)?;
-    words.push(word(alloc, "Low", -5_000)?)?;
-    words.push(word(alloc, "Neutral", 0)?)?;
-    words.push(word(alloc, "Very High", 10_000)?)?;
-    words.push(word(alloc, "Very Low", -10_000)?)?;
+    push_word(alloc, &mut words, "High", 5_000)?;
+    push_word(alloc, &mut words, "Low", -5_000)?;
+    push_word(alloc, &mut words, "Neutral", 0)?;
+    push_word(alloc, &mut words, "Very High", 10_000)?;
+    push_word(alloc, &mut words, "Very Low", -10_000)?;
     Ok(Words::from_vec(words))
 }
 

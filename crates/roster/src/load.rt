@@ -4,7 +4,7 @@ use std::marker::Model;
 pub const MOST_LOAD: u32 = 1_500;
 
 /// How many papers a reviewer takes: at least `least` and at most `greatest`, which is at most 1,500.
-#[derive(Clone, Copy, PartialEq, Eq, Debug)]
+#[derive(Clone, Copy)]
 pub struct Load {
     least: u32,
     greatest: u32,

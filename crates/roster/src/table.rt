@@ -25,7 +25,7 @@ pub trait Row: Drop {
 }
 
 /// Why a row was not put.
-#[derive(Clone, Copy, PartialEq, Eq, Debug)]
+#[derive(Clone, Copy)]
 pub enum RosterFault {
     /// So many rows are there that no new key has room.
     TooMany { count: u32 },

@@ -160,12 +160,23 @@ impl<V> ById<ById<V>> {
     }
 }
 
+impl<V: TableValue> ById<V> {
+    // Puts an equal value for an id.
+    fn put_copy(&mut self, alloc: Global, id: &str, value: &V) -> Result<(), AllocError>
+        ensures { OnOk result (self.new ≡ put_value id.now value.now self.old) }
+    {
+        let value = value.copy(alloc)?;
+        let id = String::from_str(alloc, id)?;
+        self.put(id, value)?;
+        Ok(())
+    }
+}
+
 impl<V: TableValue> TableValue for ById<V> {
     fn copy(&self, alloc: Global) -> Result<Self, AllocError> {
         let mut copy = ById::new(alloc);
         for (id, value) in self.iter() {
-            let key = String::from_str(alloc, id.as_str())?;
-            copy.put(key, value.copy(alloc)?)?;
+            copy.put_copy(alloc, id.as_str(), value)?;
         }
         Ok(copy)
     }

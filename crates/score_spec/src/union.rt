@@ -4,7 +4,7 @@ ghost use Rattle.std.specs.Ordering.{is_eq};
 ghost use Rattle.match_rules.specs.Id.{is_id};
 ghost use Rattle.roster.specs.Table.{id_cmp};
 ghost use Rattle.score_spec.specs.PairTables.{AreIds, ArePairs, has_pair, value_of};
-ghost use Rattle.score_spec.specs.Keys.{keys_of, paper_keys};
+ghost use Rattle.score_spec.specs.Keys.{keys_of, pair_key, paper_keys};
 
 use crate::by_id::ById;
 use crate::numbers::Value;
@@ -95,6 +95,16 @@ fn reviewer_of(alloc: Global, id: &str) -> Result<ReviewerId, AllocError>
     }
 }
 
+fn key_of(alloc: Global, paper: &str, reviewer: &str) -> Result<PairKey, AllocError>
+    requires paper { is_id paper.now ≡ true }
+    requires reviewer { is_id reviewer.now ≡ true }
+    ensures { IfOk result (λ key. key ≡ pair_key paper.now reviewer.now) }
+{
+    let paper = paper_of(alloc, paper)?;
+    let reviewer = reviewer_of(alloc, reviewer)?;
+    Ok(PairKey { paper, reviewer })
+}
+
 // Adds the keys of a paper's reviewers.
 fn push_keys(
     alloc: Global,
@@ -107,11 +117,7 @@ fn push_keys(
     ensures { OnOk result (keys.new.items ≡ keys.old.items ++ paper_keys paper.now reviewers.now) }
 {
     for (reviewer, _) in reviewers.iter() {
-        let key = PairKey {
-            paper: paper_of(alloc, paper)?,
-            reviewer: reviewer_of(alloc, reviewer.as_str())?,
-        };
-        keys.push(key)?;
+        keys.push(key_of(alloc, paper, reviewer.as_str())?)?;
     }
     Ok(())
 }

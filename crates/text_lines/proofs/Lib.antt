@@ -6,3 +6,4 @@ pub mod ItemsLaws
 pub mod FieldLaws
 pub mod WordLaws
 pub mod FormLaws
+pub mod CauseLaws

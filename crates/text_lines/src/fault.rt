@@ -6,7 +6,7 @@ ghost use Rattle.text_lines.specs.declared.fault.ReadError.TheVariants as read_e
 use std::alloc::{AllocError, AllocFailed};
 
 /// What is wrong with a line: the first of these, in this order, that applies to it.
-#[derive(Clone, Copy, Debug, PartialEq, Eq)]
+#[derive(Clone, Copy)]
 pub enum LineCode {
     /// It has more bytes before its line feed than a line may have.
     TooLong,
@@ -25,7 +25,7 @@ pub enum LineCode {
 }
 
 /// What is wrong with a text: its first fault.
-#[derive(Clone, Copy, Debug, PartialEq, Eq)]
+#[derive(Clone, Copy)]
 pub enum TextFault {
     /// The input ends before the line feed of a line that is due.
     Truncated,
@@ -36,14 +36,14 @@ pub enum TextFault {
 }
 
 /// Why one line could not be read.
-#[derive(Debug, Drop)]
+#[derive(Drop)]
 pub enum LineError {
     Memory,
     Code(LineCode),
 }
 
 /// Why a text could not be read.
-#[derive(Debug, Drop)]
+#[derive(Drop)]
 pub enum ReadError {
     Memory,
     /// The source failed.

@@ -29,28 +29,14 @@ pub fn two_fields(line: &str) -> Option<(&str, &str)>
     Some((first, second))
 }
 
-fn three_fields(line: &str) -> Option<(&str, &str, &str)>
-    ensures { option_map (λ parts. (parts.0.now, parts.1.now, parts.2.now)) result ≡ three_of (fields line.now) }
-{
-    let (first, rest) = first_field(line)?;
-    let (second, third) = two_fields(rest)?;
-    Some((first, second, third))
-}
-
-fn four_fields(line: &str) -> Option<(&str, &str, &str, &str)>
-    ensures { option_map (λ parts. (parts.0.now, parts.1.now, parts.2.now, parts.3.now)) result ≡ four_of (fields line.now) }
-{
-    let (first, rest) = first_field(line)?;
-    let (second, third, fourth) = three_fields(rest)?;
-    Some((first, second, third, fourth))
-}
-
 /// The five fields of a line, where it has just five.
 pub fn five_fields(line: &str) -> Option<(&str, &str, &str, &str, &str)>
     ensures { option_map (λ parts. (parts.0.now, parts.1.now, parts.2.now, parts.3.now, parts.4.now)) result ≡ five_of (fields line.now) }
 {
     let (first, rest) = first_field(line)?;
-    let (second, third, fourth, fifth) = four_fields(rest)?;
+    let (second, rest) = first_field(rest)?;
+    let (third, rest) = first_field(rest)?;
+    let (fourth, fifth) = two_fields(rest)?;
     Some((first, second, third, fourth, fifth))
 }
 
@@ -68,19 +54,12 @@ fn one_or_two_fields(line: &str) -> Option<(&str, Option<&str>)>
     }
 }
 
-fn two_or_three_fields(line: &str) -> Option<(&str, &str, Option<&str>)>
-    ensures { option_map (λ parts. (parts.0.now, parts.1.now, option_map (λ part. part.now) parts.2)) result ≡ two_or_three_of (fields line.now) }
-{
-    let (first, rest) = first_field(line)?;
-    let (second, third) = one_or_two_fields(rest)?;
-    Some((first, second, third))
-}
-
 /// The three fields of a line and maybe a fourth, where it has just so many.
 pub fn three_or_four_fields(line: &str) -> Option<(&str, &str, &str, Option<&str>)>
     ensures { option_map (λ parts. (parts.0.now, parts.1.now, parts.2.now, option_map (λ part. part.now) parts.3)) result ≡ three_or_four_of (fields line.now) }
 {
     let (first, rest) = first_field(line)?;
-    let (second, third, fourth) = two_or_three_fields(rest)?;
+    let (second, rest) = first_field(rest)?;
+    let (third, fourth) = one_or_two_fields(rest)?;
     Some((first, second, third, fourth))
 }

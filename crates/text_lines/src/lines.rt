@@ -154,12 +154,7 @@ impl Lines {
         let unread = &self.chunk[self.start..self.end];
         let length = first_feed(unread);
         let found = length < unread.len();
-        if LONGEST_LINE - self.line.len() < length {
-            return Err(ReadError::Text(TextFault::BadLine {
-                number: self.number,
-                code: LineCode::TooLong,
-            }));
-        }
+        check_room(self.number, self.line.len(), length)?;
         self.line.extend_from_slice(&unread[..length])?;
         self.start += length;
         if found {
@@ -168,6 +163,21 @@ impl Lines {
         }
         Ok(found)
     }
+}
+
+// Refuses a line that gets longer than a line may be.
+fn check_room(number: u64, count: usize, more: usize) -> Result<(), ReadError>
+    requires { count ≤ LONGEST_LINE }
+    ensures fits { OnOk result (count + more ≤ LONGEST_LINE) }
+    ensures long { IfErr result (λ e. (e ≡ ReadError.Text (TextFault.BadLine number LineCode.TooLong)) × (LONGEST_LINE < count + more)) }
+{
+    if LONGEST_LINE - count < more {
+        return Err(ReadError::Text(TextFault::BadLine {
+            number,
+            code: LineCode::TooLong,
+        }));
+    }
+    Ok(())
 }
 
 // The place of the first line feed, or the length where there is none.

@@ -2,6 +2,7 @@ use Rattle.std.proofs.Common.{◌≡◌, ℕ, ◌+◌, [], ◌∷◌, ◌++◌, 
 use Rattle.std.proofs.lemmas.Result.{err_from_is_err_and}
 use Rattle.std.proofs.lemmas.List.{length_push}
 use Rattle.text_lines.specs.Reading.{Fails, cursor, due}
+use Rattle.text_lines.proofs.CauseLaws.{cause_goes_on}
 use Rattle.text_lines.proofs.ItemsLaws.{items_go_on, items_fail, items_done, AllFrom-push}
 use Rattle.text_lines.proofs.form.read_items.Goals as goal
 
@@ -33,3 +34,22 @@ loop-preserved g c =
 pub returns-clause-reads : goal.returns-clause-reads
 returns-clause-reads g c = λ tells.
     c.loop.invariant.goes_on tells ∙ items_done (g.F.LineForm.reads c.args.form.now) c.args.count c.loop.counter c.loop.items.items _ c.loop-test.false
+
+pub returns-in_err-item-clause-cause : goal.returns-in_err-item-clause-cause
+returns-in_err-item-clause-cause g c =
+    let p = err_from_is_err_and c.from_residual.result c.from_residual.ensures.1 in
+    rw (p.1, p.2) (cause_goes_on _ _ _ _ c.loop.invariant.later c.in_err-item.ensures.cause)
+
+pub returns-in_err-item-clause-untold : goal.returns-in_err-item-clause-untold
+returns-in_err-item-clause-untold g c = λ tells. c.loop.invariant.untold (c.in_err-item.ensures.untold tells)
+
+pub returns-in_err-push-clause-cause : goal.returns-in_err-push-clause-cause
+returns-in_err-push-clause-cause g c =
+    let p = err_from_is_err_and c.from_residual-in_err-push.result c.from_residual-in_err-push.ensures.1 in
+    rw (p.1, p.2) (record { later = omega (arith, c.in_ok-item.ensures.cause.later, c.loop.invariant.later); failed = λ fault. absurd (cc) })
+
+pub returns-in_err-push-clause-untold : goal.returns-in_err-push-clause-untold
+returns-in_err-push-clause-untold g c = λ tells. c.loop.invariant.untold (c.in_ok-item.ensures.untold tells)
+
+pub returns-clause-cause : goal.returns-clause-cause
+returns-clause-cause g c = record { later = c.loop.invariant.later; failed = λ fault. absurd (cc) }

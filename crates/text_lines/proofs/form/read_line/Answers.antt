@@ -1,6 +1,7 @@
 use Rattle.std.proofs.Common.{◌≡◌, Ok}
 use Rattle.std.proofs.lemmas.Result.{err_from_is_err_and}
 use Rattle.text_lines.specs.Reading.{line_at, cursor}
+use Rattle.text_lines.proofs.CauseLaws.{same_cause}
 use Rattle.text_lines.proofs.DueLaws.{due_fails, due_ok, due_bad, due_no_text}
 use Rattle.text_lines.proofs.form.read_line.Goals as goal
 
@@ -30,3 +31,11 @@ returns-in-Err-Code-clause-reads g c = λ tells.
     let there : line_at at ≡ Ok (c.line.result.now, rest) = rw c.line.ensures (c.in_ok-next.ensures.reads tells) in
     let gives = rw (c.in-Err-Code.field-0-is, c.in-Ok.ensures.cases.0) at c.in-Err-Code.ensures.gives in
     rw (c.bad_line-in-Err-Code.ensures, c.number-number.ensures) (due_bad (g.F.LineForm.reads c.args.form.now c.args.before.now) at rest c.line.result.now c.in-Err-Code.code there c.in-Ok.ensures.cases.1 gives)
+
+pub returns-in_err-next-clause-cause : goal.returns-in_err-next-clause-cause
+returns-in_err-next-clause-cause g c =
+    let p = err_from_is_err_and c.from_residual.result c.from_residual.ensures.1 in
+    rw (p.1, p.2) (same_cause _ _ _ c.in_err-next.ensures.cause)
+
+pub returns-in_err-next-clause-untold : goal.returns-in_err-next-clause-untold
+returns-in_err-next-clause-untold g c = c.next.ensures.untold
