@@ -9,7 +9,8 @@ use Rattle.bounded_network.specs.Network.{NetworkValue, IsNetwork, IsArc, arc_at
 use Rattle.bounded_network.specs.declared.network.Arc.{Arc}
 use Rattle.flow_solver.specs.declared.state.State.{State}
 use Rattle.flow_solver.specs.declared.search.Reach.{Reach}
-use Rattle.flow_solver.specs.Step.{start_of, end_of, step_cost, step_reduced}
+use Rattle.residual_arcs.specs.Step.{start_of, end_of, step_cost}
+use Rattle.flow_solver.specs.Step.{step_reduced}
 use Rattle.flow_solver.specs.State.{IsWithin}
 use Rattle.flow_solver.specs.Search.{distance_at, reach_at, is_settled, IsTree, IsSearchOf}
 use Rattle.flow_solver.proofs.Searches.{IsStateOf, step_cost_within}
@@ -54,15 +55,6 @@ pub step_reduced-parts : (arc : Arc) (forward : Bool) (potentials : List ℤ) (n
 step_reduced-parts arc forward potentials node cost from to starts cost_is from_is to_is =
     let at_start : potential_at potentials (start_of arc forward) ≡ potential_at potentials node = ap (potential_at potentials) starts in
     rw (cost_is, from_is, to_is) (omega (arith, ints, at_start))
-
--- the ends of a step are nodes
-pub end_in : (nodes : ℕ) (arc : Arc) (forward : Bool) → IsArc nodes arc → end_of arc forward < nodes
-end_in nodes arc true good = good.head
-end_in nodes arc false good = good.tail
-
-pub start_in : (nodes : ℕ) (arc : Arc) (forward : Bool) → IsArc nodes arc → start_of arc forward < nodes
-start_in nodes arc true good = good.tail
-start_in nodes arc false good = good.head
 
 -- each place of the tree carries something
 pub width_some : (net : NetworkValue) (state : State) (source : ℕ) (tree : List Reach) (distances : List ℕ) (settled : List Bool) → IsTree net state source tree distances settled → (i : ℕ) → i < length tree → 0 < (reach_at tree i).width

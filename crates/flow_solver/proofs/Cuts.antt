@@ -6,7 +6,7 @@ use Rattle.match_rules.specs.Sums.{count_below, when}
 use Rattle.bounded_network.proofs.Sums.{count_below-at_most}
 use Rattle.bounded_network.specs.Network.{NetworkValue, IsNetwork, arc_at, is_marked}
 use Rattle.flow_solver.specs.State.{IsWithin}
-use Rattle.flow_solver.proofs.States.{when_at_most}
+use Rattle.residual_arcs.proofs.Amounts.{when_at_most}
 
 -- the floor of an arc, if it enters the marked nodes
 abbrev pub floor_into : NetworkValue → List Bool → ℕ → ℕ

@@ -1,8 +1,8 @@
 pub mod Updates
 pub mod Bounds
-pub mod Chains
 pub mod Cuts
 pub mod Endings
+pub mod Following
 pub mod Updating
 pub mod Members
 pub mod Relaxing

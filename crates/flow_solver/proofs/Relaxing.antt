@@ -8,15 +8,20 @@ use Rattle.std.proofs.lemmas.List.{length-set}
 use Rattle.bounded_network.specs.Network.{NetworkValue, IsNetwork, arc_at}
 use Rattle.bounded_network.specs.declared.network.Arc.{Arc}
 use Rattle.flow_solver.specs.declared.state.State.{State}
-use Rattle.flow_solver.specs.declared.step.Step.{Step}
+use Rattle.residual_arcs.specs.declared.step.Step.{Step}
 use Rattle.flow_solver.specs.declared.search.Reach.{Reach}
 use Rattle.flow_solver.specs.declared.search.Search.{Search}
 use Rattle.flow_solver.specs.Queue.{Waits}
-use Rattle.flow_solver.specs.Step.{start_of, end_of, left_on, step_reduced}
-use Rattle.flow_solver.specs.Links.{IsBound}
+use Rattle.residual_arcs.specs.Step.{start_of, end_of, left_on}
+use Rattle.flow_solver.specs.Step.{step_reduced}
+use Rattle.residual_arcs.specs.declared.links.Link.{Link}
+use Rattle.residual_arcs.specs.declared.links.Links.{Links}
+use Rattle.residual_arcs.specs.Links.{AreLinks, link_at}
+use Rattle.residual_arcs.proofs.Steps.{choice-from_left}
 use Rattle.flow_solver.specs.Search.{unreached, distance_at, reach_at, no_reach, is_settled, IsReach, IsSearchOf, IsRelaxed, IsRelaxedFrom, SameTree}
 use Rattle.flow_solver.proofs.Searches.{IsStateOf, step_not_negative, IsLowered, IsLowered-set, IsSearchOf-lower, settled_apart}
-use Rattle.flow_solver.proofs.Bounds.{end_in, over_small}
+use Rattle.residual_arcs.proofs.Steps.{end_in}
+use Rattle.flow_solver.proofs.Bounds.{over_small}
 
 module _ (net : NetworkValue) (state : State) (source node : ℕ) (tree reaches : List Reach) (distances : List ℕ) (settled : List Bool) (waiting : List (Reverse ℕ × ℕ))
     (good : IsNetwork net) (kept : IsStateOf net state) (search : IsSearchOf net state source node tree reaches distances settled waiting)
@@ -87,42 +92,29 @@ IsRelaxed-lower net state old new v a forward less same relaxed starts room =
     let l = less (end_of (arc_at net a) forward) in
     omega (arith, ints, h, l, same)
 
--- at an end of the arc, the step forward starts where that is the tail, and else the step back
-pub start_at_end : (arc : Arc) (v : ℕ) → (arc.tail ≡ v) ⊎ (arc.head ≡ v) → start_of arc (arc.tail == v) ≡ v
-start_at_end arc v at = elim (cases_eq arc.tail v) [
-  | inl e ↦ rw (eq-eqb arc.tail v e) e
-  | inr ne ↦ rw (ne_eqb arc.tail v ne) (elim at [ inl e ↦ absurd (ne e) | inr e ↦ e ])
+-- the links of the node from a first place on are relaxed, up to a place
+abbrev pub AreRelaxedTo : NetworkValue → State → List ℕ → ℕ → List Link → ℕ → ℕ → Type 0
+AreRelaxedTo net state distances v links first place =
+    (i : ℕ) → first ≤ i → i < place → IsRelaxed net state distances v (link_at links i).step.arc (link_at links i).step.forward
+
+-- one link more
+pub AreRelaxedTo-more : (net : NetworkValue) (state : State) (old new : List ℕ) (v : ℕ) (links : List Link) (first place : ℕ) → ((u : ℕ) → distance_at new u ≤ distance_at old u) → distance_at new v ≡ distance_at old v
+    → IsRelaxed net state new v (link_at links place).step.arc (link_at links place).step.forward → AreRelaxedTo net state old v links first place → AreRelaxedTo net state new v links first (place + 1)
+AreRelaxedTo-more net state old new v links first place less same here relaxed i from to = elim (cases_eq i place) [
+  | inl e ↦ rw e here
+  | inr ne ↦ IsRelaxed-lower net state old new v (link_at links i).step.arc (link_at links i).step.forward less same (relaxed i from (omega arith))
 ]
 
--- where the step that starts at the node is relaxed, so is the other over its arc, which starts there in a loop alone
-pub IsRelaxed-both : (net : NetworkValue) (state : State) (distances : List ℕ) (v a : ℕ) (first : Bool) → IsStateOf net state → a < length net.arcs → start_of (arc_at net a) first ≡ v
-    → IsRelaxed net state distances v a first → (forward : Bool) → IsRelaxed net state distances v a forward
-IsRelaxed-both net state distances v a true kept a_in at relaxed true = relaxed
-IsRelaxed-both net state distances v a true kept a_in at relaxed false = λ starts room.
-    let h = step_not_negative net state kept a false a_in room in
-    let e = ap (distance_at distances) at in
-    omega (arith, ints, h, e)
-IsRelaxed-both net state distances v a false kept a_in at relaxed true = λ starts room.
-    let h = step_not_negative net state kept a true a_in room in
-    let e = ap (distance_at distances) at in
-    omega (arith, ints, h, e)
-IsRelaxed-both net state distances v a false kept a_in at relaxed false = relaxed
-
--- a step starts at its tail or its head
-step_at : (net : NetworkValue) (a v : ℕ) (forward : Bool) → start_of (arc_at net a) forward ≡ v → (arc_at net a).tail ≢ v → (arc_at net a).head ≢ v → ⊥
-step_at net a v true starts not_tail not_head = not_tail starts
-step_at net a v false starts not_tail not_head = not_head starts
-
--- from a bound to the bound before it
-pub IsRelaxedFrom-more : (net : NetworkValue) (state : State) (old new : List ℕ) (v place bound : ℕ) → ((u : ℕ) → distance_at new u ≤ distance_at old u) → distance_at new v ≡ distance_at old v
-    → ((forward : Bool) → IsRelaxed net state new v place forward) → IsBound net v place bound → IsRelaxedFrom net state old v (place + 1) → IsRelaxedFrom net state new v bound
-IsRelaxedFrom-more net state old new v place bound less same here between relaxed a forward a_in from = elim (cases_order a place) [
-  | inl e ↦ rw e (here forward)
-  | inr other ↦ elim other [
-    | inl below ↦ λ starts room. let none = between.none_between a from below in absurd (step_at net a v forward starts none.0 none.1)
-    | inr above ↦ IsRelaxed-lower net state old new v a forward less same (relaxed a forward a_in (omega arith))
-  ]
-]
+-- once all links of the node are relaxed, so is every step: on a step that is no link nothing is left
+pub IsRelaxedFrom-links : (net : NetworkValue) (state : State) (distances : List ℕ) (v : ℕ) (links : Links) → IsStateOf net state → AreLinks net links
+    → AreRelaxedTo net state distances v links.all.items (slice_index links.starts.items v) (slice_index links.starts.items (v + 1)) → IsRelaxedFrom net state distances v
+IsRelaxedFrom-links net state distances v links kept good relaxed a forward a_in starts room =
+    let step : Step = record { arc = a; forward = forward } in
+    let choice = choice-from_left (arc_at net a) (slice_index state.flow.items a) forward (kept.floors a a_in) (kept.rooms a a_in) room in
+    let there = good.whole step a_in choice in
+    let from : slice_index links.starts.items v ≤ there.0 = rw starts at there.1 in
+    let to : there.0 < slice_index links.starts.items (v + 1) = rw starts at there.2 in
+    subst (λ (s : Step). IsRelaxed net state distances v s.arc s.forward) there.3 (relaxed there.0 from to) starts room
 
 -- twice the same tree
 pub SameTree-then : (a b c : Search) → SameTree a b → SameTree b c → SameTree a c

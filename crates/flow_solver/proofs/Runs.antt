@@ -6,23 +6,24 @@ use Rattle.std.proofs.lemmas.Int.{ints}
 use Rattle.std.proofs.lemmas.Bool.{cases_Bool, cases_eq, cases_lt, both_ways}
 use Rattle.std.proofs.lemmas.List.{length-set, length-replicate, get_or-replicate, get_or_past}
 use Rattle.bounded_network.proofs.Sums.{count_below-at_most}
-use Rattle.flow_solver.proofs.States.{count_below-change}
+use Rattle.residual_arcs.proofs.Amounts.{count_below-change}
 use Rattle.match_rules.specs.Sums.{count_below, when}
 use Rattle.bounded_network.specs.Network.{NetworkValue, IsNetwork, arc_at}
 use Rattle.flow_solver.specs.declared.state.State.{State}
 use Rattle.flow_solver.specs.declared.search.Reach.{Reach}
 use Rattle.flow_solver.specs.declared.search.Search.{Search}
 use Rattle.flow_solver.specs.Queue.{Waits}
-use Rattle.flow_solver.specs.Step.{start_of, end_of}
+use Rattle.residual_arcs.specs.Step.{start_of, end_of}
 use Rattle.flow_solver.specs.State.{excess_at}
 use Rattle.flow_solver.specs.Search.{unreached, distance_at, reach_at, is_settled, IsSearchOf, IsRelaxed, IsRelaxedFrom, IsClosed, IsCleared, IsClearable, IsSearch}
 use Rattle.flow_solver.proofs.Searches.{IsStateOf}
 use Rattle.flow_solver.proofs.Settling.{IsSearchOf-settle}
-use Rattle.flow_solver.proofs.Bounds.{end_in, over_settled_small}
+use Rattle.residual_arcs.proofs.Steps.{end_in}
+use Rattle.flow_solver.proofs.Bounds.{over_settled_small}
 
 -- nothing waits but settled nodes: the settled nodes are closed
 pub IsClosed-from_search : (net : NetworkValue) (state : State) (source node : ℕ) (tree reaches : List Reach) (distances : List ℕ) (settled : List Bool) (waiting : List (Reverse ℕ × ℕ))
-    → IsNetwork net → IsStateOf net state → IsSearchOf net state source node tree reaches distances settled waiting → IsRelaxedFrom net state distances node 0 → pos 0 ≤ℤ excess_at state.excess.items node
+    → IsNetwork net → IsStateOf net state → IsSearchOf net state source node tree reaches distances settled waiting → IsRelaxedFrom net state distances node → pos 0 ≤ℤ excess_at state.excess.items node
     → ((d v : ℕ) → Waits waiting d v → is_settled settled v ≡ true) → IsClosed net state source settled
 IsClosed-from_search net state source node tree reaches distances settled waiting good kept search done calm none =
     let is_tree = search.is_tree in
@@ -34,8 +35,8 @@ IsClosed-from_search net state source node tree reaches distances settled waitin
           let u : ℕ = start_of (arc_at net a) forward in
           let w : ℕ = end_of (arc_at net a) forward in
           let relaxed : IsRelaxed net state distances u a forward = elim (cases_eq u node) [
-            | inl e ↦ subst (λ x. IsRelaxed net state distances x a forward) (sym e) (done a forward a_in (omega arith))
-            | inr ne ↦ search.relaxed u starts ne a forward a_in (omega arith)
+            | inl e ↦ subst (λ x. IsRelaxed net state distances x a forward) (sym e) (done a forward a_in)
+            | inr ne ↦ search.relaxed u starts ne a forward a_in
           ] in
           let near = relaxed refl room in
           let small = over_settled_small net state source tree distances settled good kept is_tree u starts a forward a_in refl in
@@ -48,7 +49,7 @@ IsClosed-from_search net state source node tree reaches distances settled waitin
 
 -- the nearest node that waits is settled next
 pub IsSearchOf-next : (net : NetworkValue) (state : State) (source node : ℕ) (tree reaches : List Reach) (distances : List ℕ) (settled : List Bool) (waiting waiting' : List (Reverse ℕ × ℕ))
-    → IsNetwork net → IsSearchOf net state source node tree reaches distances settled waiting → IsRelaxedFrom net state distances node 0 → pos 0 ≤ℤ excess_at state.excess.items node
+    → IsNetwork net → IsSearchOf net state source node tree reaches distances settled waiting → IsRelaxedFrom net state distances node → pos 0 ≤ℤ excess_at state.excess.items node
     → (d v : ℕ) → Waits waiting d v → is_settled settled v ≡ false
     → ((e u : ℕ) → Waits waiting' e u → Waits waiting e u)
     → ((e u : ℕ) → Waits waiting e u → is_settled settled u ≡ false → Waits waiting' e u ⊎ ((e ≡ d) × (u ≡ v)))

@@ -10,7 +10,8 @@ use Rattle.bounded_network.specs.declared.network.Arc.{Arc}
 use Rattle.flow_solver.specs.declared.state.State.{State}
 use Rattle.flow_solver.specs.declared.search.Reach.{Reach}
 use Rattle.flow_solver.specs.Queue.{Waits}
-use Rattle.flow_solver.specs.Step.{start_of, end_of, step_cost, left_on, step_reduced}
+use Rattle.residual_arcs.specs.Step.{start_of, end_of, step_cost, left_on}
+use Rattle.flow_solver.specs.Step.{step_reduced}
 use Rattle.flow_solver.specs.State.{IsWithin, IsState}
 use Rattle.flow_solver.specs.Search.{unreached, distance_at, reach_at, is_settled, IsReach, IsRelaxedFrom, IsTree, IsSearchOf}
 
@@ -29,13 +30,6 @@ step_not_negative net state kept a false a_in room =
 pub step_cost_within : (nodes : ℕ) (arc : Arc) (forward : Bool) → IsArc nodes arc → IsWithin 8000000000 (step_cost arc forward)
 step_cost_within nodes arc true good = record { low = omega (arith, ints, good.cost_low); high = omega (arith, ints, good.cost_high) }
 step_cost_within nodes arc false good = record { low = omega (arith, ints, good.cost_high); high = omega (arith, ints, good.cost_low) }
-
--- the end of a step is the start or the end of the other step over its arc
-pub end_among : (arc : Arc) (f g : Bool) → (end_of arc f ≡ start_of arc g) ⊎ (end_of arc f ≡ end_of arc g)
-end_among arc true true = inr refl
-end_among arc true false = inl refl
-end_among arc false true = inl refl
-end_among arc false false = inr refl
 
 -- one distance is lower, and no other changed
 pub record IsLowered (old new : List ℕ) (w d : ℕ) : Type 0 where
@@ -63,10 +57,10 @@ pub settled_apart : (settled : List Bool) (u w : ℕ) → is_settled settled u �
 settled_apart settled u w here not_there same = both_ways (is_settled settled w) not_there (rw same at here)
 
 module _ (net : NetworkValue) (state : State) (old new : List ℕ) (w d : ℕ) (lowered : IsLowered old new w d) where
-  pub IsRelaxedFrom-lower : (v bound : ℕ) → v ≢ w → IsRelaxedFrom net state old v bound → IsRelaxedFrom net state new v bound
-  IsRelaxedFrom-lower v bound ne relaxed a forward a_in from starts room =
+  pub IsRelaxedFrom-lower : (v : ℕ) → v ≢ w → IsRelaxedFrom net state old v → IsRelaxedFrom net state new v
+  IsRelaxedFrom-lower v ne relaxed a forward a_in starts room =
       let less = IsLowered-le old new w d lowered (end_of (arc_at net a) forward) in
-      rw (lowered.others v ne) (omega (arith, ints, less, relaxed a forward a_in from starts room))
+      rw (lowered.others v ne) (omega (arith, ints, less, relaxed a forward a_in starts room))
 
   pub IsReach-lower : (tree : List Reach) (limit : ℕ) (reach : Reach) (v : ℕ) → v ≢ w → (reach_at tree reach.from).node ≢ w → IsReach net state tree old limit reach v → IsReach net state tree new limit reach v
   IsReach-lower tree limit reach v ne parent_ne reaches = record {
@@ -142,6 +136,6 @@ IsSearchOf-lower net state source node tree reaches distances settled waiting se
         | inl e ↦ rw (e, lowered.at) added
         | inr ne ↦ rw (lowered.others v ne) (kept (distance_at distances v) v (search.waits v v_in uns (rw (lowered.others v ne) at less)))
       ];
-      relaxed = λ v s ne. IsRelaxedFrom-lower net state distances distances' w d lowered v 0 (settled_apart settled v w s unsettled) (search.relaxed v s ne);
+      relaxed = λ v s ne. IsRelaxedFrom-lower net state distances distances' w d lowered v (settled_apart settled v w s unsettled) (search.relaxed v s ne);
       calm = search.calm;
     }

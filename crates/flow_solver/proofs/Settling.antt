@@ -11,11 +11,13 @@ use Rattle.bounded_network.proofs.Sums.{count_below-at_most}
 use Rattle.flow_solver.specs.declared.state.State.{State}
 use Rattle.flow_solver.specs.declared.search.Reach.{Reach}
 use Rattle.flow_solver.specs.Queue.{Waits}
-use Rattle.flow_solver.specs.Step.{start_of, end_of, step_cost, step_reduced}
+use Rattle.residual_arcs.specs.Step.{start_of, end_of, step_cost}
+use Rattle.flow_solver.specs.Step.{step_reduced}
 use Rattle.flow_solver.specs.State.{excess_at}
 use Rattle.flow_solver.specs.Search.{unreached, distance_at, reach_at, no_reach, is_settled, height_at, IsReach, IsRelaxedFrom, IsTree, IsSearchOf}
-use Rattle.flow_solver.proofs.States.{count_below-change, when_at_most}
-use Rattle.flow_solver.proofs.Searches.{step_cost_within, end_among, settled_apart}
+use Rattle.residual_arcs.proofs.Amounts.{count_below-change, when_at_most}
+use Rattle.residual_arcs.proofs.Steps.{end_among}
+use Rattle.flow_solver.proofs.Searches.{step_cost_within, settled_apart}
 
 -- the tree has no more nodes than the network
 pub tree_short : (net : NetworkValue) (state : State) (source : ℕ) (tree : List Reach) (distances : List ℕ) (settled : List Bool) → IsTree net state source tree distances settled → length tree ≤ net.nodes
@@ -192,7 +194,7 @@ module _ (net : NetworkValue) (state : State) (source : ℕ) (tree : List Reach)
 
 -- the search once its nearest node is settled
 pub IsSearchOf-settle : (net : NetworkValue) (state : State) (source node : ℕ) (tree reaches : List Reach) (distances : List ℕ) (settled : List Bool) (waiting : List (Reverse ℕ × ℕ))
-    → IsNetwork net → IsSearchOf net state source node tree reaches distances settled waiting → IsRelaxedFrom net state distances node 0 → pos 0 ≤ℤ excess_at state.excess.items node
+    → IsNetwork net → IsSearchOf net state source node tree reaches distances settled waiting → IsRelaxedFrom net state distances node → pos 0 ≤ℤ excess_at state.excess.items node
     → (v : ℕ) (waiting' : List (Reverse ℕ × ℕ)) → v < net.nodes → is_settled settled v ≡ false → distance_at distances v < unreached
     → ((u : ℕ) → u < net.nodes → is_settled settled u ≡ false → distance_at distances v ≤ distance_at distances u)
     → ((d u : ℕ) → Waits waiting' d u → Waits waiting d u)

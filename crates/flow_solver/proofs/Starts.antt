@@ -8,7 +8,7 @@ use Rattle.match_rules.specs.Sums.{count_below, when}
 use Rattle.bounded_network.proofs.Sums.{count_below-at_most}
 use Rattle.bounded_network.specs.Network.{NetworkValue, IsNetwork, arc_at, reduced_cost}
 use Rattle.flow_solver.specs.State.{IsWithin, IsShifted, excess_at, Suits}
-use Rattle.flow_solver.proofs.States.{when_at_most}
+use Rattle.residual_arcs.proofs.Amounts.{when_at_most}
 
 -- each excess is what enters less what leaves over the arcs below a place
 pub record AreExcessesTo (net : NetworkValue) (flow : List ℕ) (i : ℕ) (excess : List ℤ) : Type 0 where

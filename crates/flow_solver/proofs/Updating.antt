@@ -7,13 +7,14 @@ use Rattle.std.proofs.lemmas.Bool.{cases_Bool, cases_lt}
 use Rattle.bounded_network.specs.Network.{NetworkValue, IsNetwork, AreOptimal, arc_at, potential_at}
 use Rattle.flow_solver.specs.declared.state.State.{State}
 use Rattle.flow_solver.specs.declared.search.Reach.{Reach}
-use Rattle.flow_solver.specs.Step.{start_of, end_of, left_on, step_reduced}
+use Rattle.residual_arcs.specs.Step.{start_of, end_of, left_on}
+use Rattle.flow_solver.specs.Step.{step_reduced}
 use Rattle.flow_solver.specs.State.{IsWithin, IsState, AreCalm, AreUpdated, excess_at}
 use Rattle.flow_solver.specs.Search.{distance_at, reach_at, is_settled, IsSearchOf}
 use Rattle.flow_solver.specs.Path.{IsPath}
 use Rattle.flow_solver.proofs.Searches.{IsStateOf, step_not_negative, settled_apart}
 use Rattle.flow_solver.proofs.Settling.{tree_short}
-use Rattle.flow_solver.proofs.Bounds.{start_in, end_in}
+use Rattle.residual_arcs.proofs.Steps.{start_in, end_in}
 
 module _ (net : NetworkValue) (state : State) (source node : ℕ) (tree reaches : List Reach) (distances : List ℕ) (settled : List Bool) (waiting : List (Reverse ℕ × ℕ))
     (good : IsNetwork net) (kept : IsStateOf net state) (search : IsSearchOf net state source node tree reaches distances settled waiting)
@@ -47,7 +48,7 @@ module _ (net : NetworkValue) (state : State) (source node : ℕ) (tree reaches 
       elim (cases_lt (distance_at distances u) (distance_at distances node)) [
         | inl near ↦
             let s = nearer_settled u (start_in net.nodes (arc_at net a) forward (good.each a b)) near in
-            let relaxed = search.relaxed u s.0 s.1 a forward b (omega arith) refl room in
+            let relaxed = search.relaxed u s.0 s.1 a forward b refl room in
             omega (arith, ints, after, near, relaxed)
         | inr far ↦ omega (arith, ints, after, before, far)
       ]

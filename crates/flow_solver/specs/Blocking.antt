@@ -15,7 +15,7 @@ pub record IsTaken (net : NetworkValue) (taken : Taken) : Type 0 where
   pub node : taken.node < net.nodes
   pub arc : taken.step.arc < length net.arcs
 
--- a level and a next residual arc for each node, and steps
+-- a level and a next link for each node, and steps
 pub record IsWalk (net : NetworkValue) (walk : Walk) : Type 0 where
   pub levels_long : length walk.levels.items ≡ net.nodes
   pub next_long : length walk.next.items ≡ net.nodes + 1

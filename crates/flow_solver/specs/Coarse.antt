@@ -4,7 +4,7 @@ use Rattle.bounded_network.specs.Network.{NetworkValue, potential_at}
 use Rattle.flow_solver.specs.declared.coarse.Coarse.{Coarse}
 use Rattle.flow_solver.specs.State.{IsWithin}
 
--- what is left for each arc, an excess, a small potential and a next residual arc for each node, and nodes that are active
+-- what is left for each arc, an excess, a small potential and a next link for each node, and nodes that are active
 pub record IsCoarse (net : NetworkValue) (coarse : Coarse) : Type 0 where
   pub left_long : length coarse.left.items ≡ length net.arcs
   pub excess_long : length coarse.excess.items ≡ net.nodes

@@ -4,7 +4,6 @@ pub mod Coarse
 pub mod Links
 pub mod Queue
 pub mod Search
-pub mod Residual
 pub mod Solution
 pub mod State
 pub mod Step

@@ -1,19 +1,11 @@
--- The arcs at each node, as chains from the last arc to the first.
-use Rattle.std.specs.Prelude.{ℕ, ◌≡◌, ◌-◌, ◌<◌, ◌≤◌, ◌⊎◌, ◌≢◌, length, slice_index}
-use Rattle.bounded_network.specs.Network.{NetworkValue, arc_at}
-use Rattle.flow_solver.specs.declared.links.Links.{Links}
+-- Links that are safe to follow.
+use Rattle.std.specs.Prelude.{◌<◌, length}
+use Rattle.bounded_network.specs.Network.{NetworkValue}
+use Rattle.residual_arcs.specs.declared.links.Link.{Link}
+use Rattle.flow_solver.specs.State.{IsWithin}
 
--- of the arcs below the limit, the last at the node is the one before the bound; a bound of 0 says that there is none
-pub record IsBound (net : NetworkValue) (v limit bound : ℕ) : Type 0 where
-  pub below : bound ≤ limit
-  pub none_between : (a : ℕ) → bound ≤ a → a < limit → ((arc_at net a).tail ≢ v) × ((arc_at net a).head ≢ v)
-  pub at : 0 < bound → ((arc_at net (bound - 1)).tail ≡ v) ⊎ ((arc_at net (bound - 1)).head ≡ v)
-
--- the bounds at each node, and before each arc at its two ends
-pub record AreLinks (net : NetworkValue) (links : Links) : Type 0 where
-  pub last_long : length links.last.items ≡ net.nodes
-  pub tails_long : length links.before_tail.items ≡ length net.arcs
-  pub heads_long : length links.before_head.items ≡ length net.arcs
-  pub last : (v : ℕ) → v < net.nodes → IsBound net v (length net.arcs) (slice_index links.last.items v)
-  pub before_tail : (a : ℕ) → a < length net.arcs → IsBound net (arc_at net a).tail a (slice_index links.before_tail.items a)
-  pub before_head : (a : ℕ) → a < length net.arcs → IsBound net (arc_at net a).head a (slice_index links.before_head.items a)
+-- it ends at a node, its step is over an arc, and its cost is small
+pub record IsLinkWithin (net : NetworkValue) (link : Link) : Type 0 where
+  pub to : link.to < net.nodes
+  pub arc : link.step.arc < length net.arcs
+  pub cost : IsWithin 8000000000 link.cost

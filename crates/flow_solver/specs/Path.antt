@@ -4,7 +4,8 @@ use Rattle.bounded_network.specs.Network.{NetworkValue, arc_at}
 use Rattle.flow_solver.specs.declared.state.State.{State}
 use Rattle.flow_solver.specs.declared.search.Reach.{Reach}
 use Rattle.flow_solver.specs.Search.{reach_at}
-use Rattle.flow_solver.specs.Step.{start_of, end_of, left_on, step_reduced}
+use Rattle.residual_arcs.specs.Step.{start_of, end_of, left_on}
+use Rattle.flow_solver.specs.Step.{step_reduced}
 
 -- every step of the tree has reduced cost 0, no two take one arc, and the path to the last node can carry the amount
 pub record IsPath (net : NetworkValue) (state : State) (tree : List Reach) (amount : ℕ) : Type 0 where

@@ -9,7 +9,9 @@ use Rattle.flow_solver.specs.declared.search.Reach.{Reach}
 use Rattle.flow_solver.specs.declared.search.Search.{Search}
 use Rattle.flow_solver.specs.Queue.{Waits}
 use Rattle.flow_solver.specs.State.{excess_at}
-use Rattle.flow_solver.specs.Step.{start_of, end_of, left_on, step_reduced}
+use Rattle.residual_arcs.specs.Closed.{AreClosed}
+use Rattle.residual_arcs.specs.Step.{start_of, end_of, left_on}
+use Rattle.flow_solver.specs.Step.{step_reduced}
 
 -- the distance of a node that is not reached
 abbrev pub unreached : ℕ
@@ -49,9 +51,9 @@ IsRelaxed net state distances v a forward =
     start_of (arc_at net a) forward ≡ v → 0 < left_on (arc_at net a) (slice_index state.flow.items a) forward
     → pos (distance_at distances (end_of (arc_at net a) forward)) ≤ℤ (pos (distance_at distances v) +ℤ step_reduced (arc_at net a) forward state.potentials.items)
 
--- so it is over each arc from the bound on
-abbrev pub IsRelaxedFrom : NetworkValue → State → List ℕ → ℕ → ℕ → Type 0
-IsRelaxedFrom net state distances v bound = (a : ℕ) (forward : Bool) → a < length net.arcs → bound ≤ a → IsRelaxed net state distances v a forward
+-- so it is over each arc
+abbrev pub IsRelaxedFrom : NetworkValue → State → List ℕ → ℕ → Type 0
+IsRelaxedFrom net state distances v = (a : ℕ) (forward : Bool) → a < length net.arcs → IsRelaxed net state distances v a forward
 
 -- the tree of the settled nodes
 pub record IsTree (net : NetworkValue) (state : State) (source : ℕ) (tree : List Reach) (distances : List ℕ) (settled : List Bool) : Type 0 where
@@ -83,7 +85,7 @@ pub record IsSearchOf (net : NetworkValue) (state : State) (source node : ℕ) (
   pub further : (v : ℕ) → v < net.nodes → is_settled settled v ≡ false → distance_at distances node ≤ distance_at distances v
   pub queued : (d v : ℕ) → Waits waiting d v → (v < net.nodes) × (distance_at distances v ≤ d) × (d < unreached)
   pub waits : (v : ℕ) → v < net.nodes → is_settled settled v ≡ false → distance_at distances v < unreached → Waits waiting (distance_at distances v) v
-  pub relaxed : (v : ℕ) → is_settled settled v ≡ true → v ≢ node → IsRelaxedFrom net state distances v 0
+  pub relaxed : (v : ℕ) → is_settled settled v ≡ true → v ≢ node → IsRelaxedFrom net state distances v
   pub calm : (v : ℕ) → is_settled settled v ≡ true → v ≢ node → pos 0 ≤ℤ excess_at state.excess.items v
 
 abbrev pub IsSearch : NetworkValue → State → Search → Type 0
@@ -114,8 +116,7 @@ pub record IsClosed (net : NetworkValue) (state : State) (source : ℕ) (settled
   pub long : length settled ≡ net.nodes
   pub source_settled : is_settled settled source ≡ true
   pub calm : (v : ℕ) → is_settled settled v ≡ true → pos 0 ≤ℤ excess_at state.excess.items v
-  pub closed : (a : ℕ) (forward : Bool) → a < length net.arcs → is_settled settled (start_of (arc_at net a) forward) ≡ true
-      → 0 < left_on (arc_at net a) (slice_index state.flow.items a) forward → is_settled settled (end_of (arc_at net a) forward) ≡ true
+  pub closed : AreClosed net state.flow.items settled
 
 -- the node is neither reached nor settled
 pub record IsCleared (distances : List ℕ) (settled : List Bool) (v : ℕ) : Type 0 where

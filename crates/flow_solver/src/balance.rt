@@ -2,8 +2,7 @@
 ghost use Rattle.std.specs.Prelude.{◌≡◌, Ok, IfOk, IfErr, IsNone};
 ghost use Rattle.flow_solver.specs.declared.balance.Balance.TheVariants.{GivenUp};
 ghost use Rattle.flow_solver.specs.Balance.{IsBalanced, AreExcluding, Balances};
-ghost use Rattle.flow_solver.specs.Links.{AreLinks};
-ghost use Rattle.flow_solver.specs.Residual.{AreResidualArcs};
+ghost use Rattle.residual_arcs.specs.Links.{AreLinks};
 ghost use Rattle.flow_solver.specs.State.{IsState, AreCalm};
 
 use crate::blank::blank;
@@ -12,15 +11,14 @@ use crate::coarse::greatest_cost;
 use crate::cut::{is_violated, low_nodes};
 use crate::drain::{Outcome, drain};
 use crate::guess::first_potentials;
-use crate::links::Links;
-use crate::residual::{ResidualArcs, residual_arcs_of};
 use crate::scaling::coarse_potentials;
 use crate::start::start_at;
 use crate::state::State;
 use bounded_network::Network;
+use residual_arcs::Links;
 use std::alloc::{AllocError, Global};
 
-// How many residual arcs searches may go over for each arc before a network counts as hard.
+// How many links searches may go over for each arc before a network counts as hard.
 const PATIENCE: usize = 40;
 
 /// What came of all excesses.
@@ -39,14 +37,12 @@ fn drain_all(
     alloc: Global,
     net: &Network,
     links: &Links,
-    residual_arcs: &ResidualArcs,
     mut state: State,
     mut patience: Option<usize>,
 ) -> Result<Balance, AllocError>
     requires kept { IsState net.now state.flow.items state.excess.items state.potentials.items }
     requires calm { AreCalm net.now state.excess.items state.potentials.items }
     requires links { AreLinks net.now links.now }
-    requires residual_arcs { AreResidualArcs net.now residual_arcs.now }
     ensures balances { IfOk result (Balances net.now) }
     ensures patient { IsNone patience → ¬ (result ≡ Ok GivenUp) }
 {
@@ -55,7 +51,6 @@ fn drain_all(
         match drain(
             net,
             links,
-            residual_arcs,
             &mut state,
             &mut search,
             source,
@@ -74,29 +69,27 @@ fn balanced_anew(
     alloc: Global,
     net: &Network,
     links: &Links,
-    residual_arcs: &ResidualArcs,
 ) -> Result<Result<State, Vec<bool>>, AllocError>
     requires links { AreLinks net.now links.now }
-    requires residual_arcs { AreResidualArcs net.now residual_arcs.now }
     ensures balanced { IfOk result (λ answer. IfOk answer (IsBalanced net.now)) }
     ensures excluding { IfOk result (λ answer. IfErr answer (λ marks. AreExcluding net.now marks.items)) }
 {
-    let potentials = coarse_potentials(alloc, net, residual_arcs)?;
+    let potentials = coarse_potentials(alloc, net, links)?;
     let marks = low_nodes(alloc, &potentials)?;
     let violated = is_violated(net, &marks);
     if violated {
         return Ok(Err(marks));
     }
     let mut state = start_at(alloc, net, potentials)?;
-    block(alloc, net, residual_arcs, &mut state)?;
-    match drain_all(alloc, net, links, residual_arcs, state, None)? {
+    block(alloc, net, links, &mut state)?;
+    match drain_all(alloc, net, links, state, None)? {
         Balance::Even(state) => Ok(Ok(state)),
         Balance::Cut(marks) => Ok(Err(marks)),
         Balance::GivenUp => unreachable!(),
     }
 }
 
-// How many residual arcs searches may go over before the coarse solution is asked. Where nothing costs anything, that says nothing new.
+// How many links searches may go over before the coarse solution is asked. Where nothing costs anything, that says nothing new.
 fn patience_for(net: &Network) -> Option<usize> {
     if greatest_cost(net) == 0 {
         None
@@ -117,13 +110,12 @@ pub fn balanced(
     ensures excluding { IfOk result (λ answer. IfErr answer (λ marks. AreExcluding net.now marks.items)) }
 {
     let _nodes = net.nodes();
-    let residual_arcs = residual_arcs_of(alloc, net, links)?;
     let potentials = first_potentials(alloc, net)?;
     let mut state = start_at(alloc, net, potentials)?;
-    block(alloc, net, &residual_arcs, &mut state)?;
-    match drain_all(alloc, net, links, &residual_arcs, state, patience_for(net))? {
+    block(alloc, net, links, &mut state)?;
+    match drain_all(alloc, net, links, state, patience_for(net))? {
         Balance::Even(state) => Ok(Ok(state)),
         Balance::Cut(marks) => Ok(Err(marks)),
-        Balance::GivenUp => balanced_anew(alloc, net, links, &residual_arcs),
+        Balance::GivenUp => balanced_anew(alloc, net, links),
     }
 }

@@ -9,8 +9,8 @@ ghost use Rattle.flow_solver.specs.State.{IsState, excess_at};
 use crate::queue::{self, Queue, empty, waiting};
 use crate::search::{Reach, Search, UNREACHED, width_of};
 use crate::state::State;
-use crate::step::Step;
 use bounded_network::Network;
+use residual_arcs::Step;
 use std::alloc::{AllocError, Global};
 
 // How no node is reached.

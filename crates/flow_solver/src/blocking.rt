@@ -4,17 +4,18 @@
 // Each step of a push keeps the state by itself, so that nothing is proved of the walk.
 ghost use Rattle.std.specs.Prelude.{◌≡◌, ◌<◌, length, IfOk, OnOk, IfSome, All};
 ghost use Rattle.flow_solver.specs.Blocking.{AreLevels, IsTaken, IsWalk};
-ghost use Rattle.flow_solver.specs.Residual.{IsResidualArc, AreResidualArcs};
+ghost use Rattle.flow_solver.specs.Links.{IsLinkWithin};
+ghost use Rattle.residual_arcs.specs.Links.{AreLinks};
 ghost use Rattle.flow_solver.specs.State.{IsState, AreCalm};
 
 use crate::levels::{FAR, is_even, levels_of};
 use crate::path::deficit_of;
 use crate::push::push_over;
-use crate::residual::{ResidualArc, ResidualArcs, residual_arc_of};
+use crate::links::link_of;
 use crate::search::amount_of;
 use crate::state::{State, left_at};
-use crate::step::Step;
 use bounded_network::Network;
+use residual_arcs::{Link, Links, Step};
 use std::alloc::{AllocError, Global};
 
 // How many passes there are at most.
@@ -27,7 +28,7 @@ pub struct Taken {
     pub step: Step,
 }
 
-/// The levels, for each node the next of its residual arcs to follow, and the steps of the walk from its source.
+/// The levels, for each node the next of its links to follow, and the steps of the walk from its source.
 #[derive(Drop)]
 pub struct Walk {
     pub levels: Vec<u32>,
@@ -40,58 +41,48 @@ fn is_below(lower: u32, upper: u32) -> bool {
     lower < upper && lower + 1 == upper
 }
 
-// The step over the residual arc.
-fn step_over(residual_arc: ResidualArc) -> Step
-    ensures { result.arc ≡ residual_arc.arc }
-{
-    Step {
-        arc: residual_arc.arc,
-        forward: residual_arc.forward,
-    }
-}
-
-// Whether the walk can go on over the node's residual arc.
+// Whether the walk can go on over the node's link.
 fn leads_down(
     net: &Network,
     state: &State,
     walk: &Walk,
     node: u32,
-    residual_arc: ResidualArc,
+    link: Link,
 ) -> bool
     requires kept { IsState net.now state.now.flow.items state.now.excess.items state.now.potentials.items }
     requires walk { IsWalk net.now walk.now }
     requires node_in { node < net.now.nodes }
-    requires residual_arc { IsResidualArc net.now residual_arc }
+    requires link { IsLinkWithin net.now link }
 {
     is_below(
-        walk.levels[residual_arc.to as usize],
+        walk.levels[link.to as usize],
         walk.levels[node as usize],
-    ) && is_even(net, state, node, residual_arc)
-        && left_at(net, state, step_over(residual_arc)) > 0
+    ) && is_even(net, state, node, link)
+        && left_at(net, state, link.step) > 0
 }
 
-// The residual arc of the node over which the walk goes on.
+// The link of the node over which the walk goes on.
 fn way_down(
     net: &Network,
-    residual_arcs: &ResidualArcs,
+    links: &Links,
     state: &State,
     walk: &mut Walk,
     node: u32,
-) -> Option<ResidualArc>
+) -> Option<Link>
     requires kept { IsState net.now state.now.flow.items state.now.excess.items state.now.potentials.items }
-    requires residual_arcs { AreResidualArcs net.now residual_arcs.now }
+    requires links { AreLinks net.now links.now }
     requires walk { IsWalk net.now walk.old }
     requires node_in { node < net.now.nodes }
     ensures walk { IsWalk net.now walk.new }
-    ensures residual_arc { IfSome result (λ residual_arc. IsResidualArc net.now residual_arc) }
+    ensures link { IfSome result (λ link. IsLinkWithin net.now link) }
 {
-    let end = residual_arcs.starts[node as usize + 1];
+    let end = links.starts[node as usize + 1];
     for place in walk.next[node as usize]..end {
-        let residual_arc = residual_arc_of(net, residual_arcs, place);
-        let found = leads_down(net, state, walk, node, residual_arc);
+        let link = link_of(net, links, place);
+        let found = leads_down(net, state, walk, node, link);
         if found {
             walk.next[node as usize] = place;
-            return Some(residual_arc);
+            return Some(link);
         }
     }
     walk.next[node as usize] = end;
@@ -115,25 +106,25 @@ fn step_back(net: &Network, walk: &mut Walk, node: u32) -> Option<u32>
 // Goes one step on from the node, or back. Where it then is, or `None` if the source leads nowhere.
 fn go_on(
     net: &Network,
-    residual_arcs: &ResidualArcs,
+    links: &Links,
     state: &State,
     walk: &mut Walk,
     node: u32,
 ) -> Result<Option<u32>, AllocError>
     requires kept { IsState net.now state.now.flow.items state.now.excess.items state.now.potentials.items }
-    requires residual_arcs { AreResidualArcs net.now residual_arcs.now }
+    requires links { AreLinks net.now links.now }
     requires walk { IsWalk net.now walk.old }
     requires node_in { node < net.now.nodes }
     ensures walk { OnOk result (IsWalk net.now walk.new) }
     ensures node { IfOk result (λ next. IfSome next (λ node. node < net.now.nodes)) }
 {
-    match way_down(net, residual_arcs, state, walk, node) {
-        Some(residual_arc) => {
+    match way_down(net, links, state, walk, node) {
+        Some(link) => {
             walk.taken.push(Taken {
                 node,
-                step: step_over(residual_arc),
+                step: link.step,
             })?;
-            Ok(Some(residual_arc.to))
+            Ok(Some(link.to))
         }
         None => Ok(step_back(net, walk, node)),
     }
@@ -201,14 +192,14 @@ fn push_to(net: &Network, state: &mut State, walk: &Walk, source: u32, node: u32
 // Walks from the source to deficits, as often as it has an excess and a way. Says whether it came to one.
 fn walk_from(
     net: &Network,
-    residual_arcs: &ResidualArcs,
+    links: &Links,
     state: &mut State,
     walk: &mut Walk,
     source: u32,
 ) -> Result<bool, AllocError>
     requires kept { IsState net.now state.old.flow.items state.old.excess.items state.old.potentials.items }
     requires calm { AreCalm net.now state.old.excess.items state.old.potentials.items }
-    requires residual_arcs { AreResidualArcs net.now residual_arcs.now }
+    requires links { AreLinks net.now links.now }
     requires walk { IsWalk net.now walk.old }
     requires source_in { source < net.now.nodes }
     ensures kept { IsState net.now state.new.flow.items state.new.excess.items state.new.potentials.items }
@@ -228,7 +219,7 @@ fn walk_from(
         if state.excess[source as usize] <= 0 {
             return Ok(arrived);
         }
-        match go_on(net, residual_arcs, state, walk, node)? {
+        match go_on(net, links, state, walk, node)? {
             Some(next) => node = next,
             None => return Ok(arrived),
         }
@@ -240,17 +231,17 @@ fn walk_from(
 fn walk_at(
     alloc: Global,
     net: &Network,
-    residual_arcs: &ResidualArcs,
+    links: &Links,
     state: &State,
 ) -> Result<Walk, AllocError>
     requires kept { IsState net.now state.now.flow.items state.now.excess.items state.now.potentials.items }
-    requires residual_arcs { AreResidualArcs net.now residual_arcs.now }
+    requires links { AreLinks net.now links.now }
     ensures { IfOk result (λ walk. IsWalk net.now walk) }
 {
-    let levels = levels_of(alloc, net, residual_arcs, state)?;
+    let levels = levels_of(alloc, net, links, state)?;
     Ok(Walk {
         levels: levels.each,
-        next: residual_arcs.starts.as_slice().to_vec(alloc)?,
+        next: links.starts.as_slice().to_vec(alloc)?,
         taken: Vec::new(alloc),
     })
 }
@@ -259,19 +250,19 @@ fn walk_at(
 fn pass(
     alloc: Global,
     net: &Network,
-    residual_arcs: &ResidualArcs,
+    links: &Links,
     state: &mut State,
 ) -> Result<bool, AllocError>
     requires kept { IsState net.now state.old.flow.items state.old.excess.items state.old.potentials.items }
     requires calm { AreCalm net.now state.old.excess.items state.old.potentials.items }
-    requires residual_arcs { AreResidualArcs net.now residual_arcs.now }
+    requires links { AreLinks net.now links.now }
     ensures kept { IsState net.now state.new.flow.items state.new.excess.items state.new.potentials.items }
     ensures calm { AreCalm net.now state.new.excess.items state.new.potentials.items }
 {
-    let mut walk = walk_at(alloc, net, residual_arcs, state)?;
+    let mut walk = walk_at(alloc, net, links, state)?;
     let mut pushed = false;
     for source in 0..net.nodes() {
-        let arrived = walk_from(net, residual_arcs, state, &mut walk, source)?;
+        let arrived = walk_from(net, links, state, &mut walk, source)?;
         pushed = pushed || arrived;
     }
     Ok(pushed)
@@ -281,17 +272,17 @@ fn pass(
 pub fn block(
     alloc: Global,
     net: &Network,
-    residual_arcs: &ResidualArcs,
+    links: &Links,
     state: &mut State,
 ) -> Result<(), AllocError>
     requires kept { IsState net.now state.old.flow.items state.old.excess.items state.old.potentials.items }
     requires calm { AreCalm net.now state.old.excess.items state.old.potentials.items }
-    requires residual_arcs { AreResidualArcs net.now residual_arcs.now }
+    requires links { AreLinks net.now links.now }
     ensures kept { IsState net.now state.new.flow.items state.new.excess.items state.new.potentials.items }
     ensures calm { AreCalm net.now state.new.excess.items state.new.potentials.items }
 {
     for _pass in 0..PASSES {
-        let pushed = pass(alloc, net, residual_arcs, state)?;
+        let pushed = pass(alloc, net, links, state)?;
         if !pushed {
             break;
         }

@@ -1,19 +1,20 @@
 // A phase of cost scaling: its steps.
 //
-// Excesses are pushed over residual arcs with a negative reduced cost, and a node that has no such arc is relabelled, to a
+// Excesses are pushed over links with a negative reduced cost, and a node that has no such arc is relabelled, to a
 // potential lower by epsilon than it must be to have one. Nothing is proved of the amounts: those that would be too large
 // stop at their bounds.
 ghost use Rattle.std.specs.Prelude.{◌≡◌, ◌<◌, length, ℕ, IfOk, OnOk, All, if◌then◌else◌};
 ghost use Rattle.bounded_network.specs.Network.{potential_at};
 ghost use Rattle.flow_solver.specs.Coarse.{IsCoarse};
-ghost use Rattle.flow_solver.specs.Residual.{IsResidualArc, AreResidualArcs};
+ghost use Rattle.flow_solver.specs.Links.{IsLinkWithin};
+ghost use Rattle.residual_arcs.specs.Links.{AreLinks};
 ghost use Rattle.flow_solver.specs.State.{IsWithin};
 
-use crate::residual::{ResidualArc, ResidualArcs, residual_arc_of};
+use crate::links::link_of;
 use crate::search::amount_of;
 use crate::start::start_at;
-use crate::step::{arc_count, arc_of};
 use bounded_network::{MAX_COST, Network};
+use residual_arcs::{Link, Links, arc_count, arc_of};
 use std::alloc::{AllocError, Global};
 
 // How much more an arc takes forward, and how much back.
@@ -23,7 +24,7 @@ pub struct Left {
     back: u64,
 }
 
-/// What is left for each arc, the excesses and potentials of a phase, for each node the next of its residual arcs to push
+/// What is left for each arc, the excesses and potentials of a phase, for each node the next of its links to push
 /// over, the nodes that have an excess, and how many were relabelled since the last global update.
 #[derive(Drop)]
 pub struct Coarse {
@@ -80,11 +81,11 @@ fn lefts_of(alloc: Global, net: &Network, flow: &[u64]) -> Result<Vec<Left>, All
 pub fn phase_at(
     alloc: Global,
     net: &Network,
-    residual_arcs: &ResidualArcs,
+    links: &Links,
     potentials: Vec<i64>,
     epsilon: i64,
 ) -> Result<Coarse, AllocError>
-    requires residual_arcs { AreResidualArcs net.now residual_arcs.now }
+    requires links { AreLinks net.now links.now }
     requires long { length potentials.items ≡ net.now.nodes }
     requires small { (v : ℕ) → IsWithin 8000000000 (potential_at potentials.items v) }
     ensures { IfOk result (λ coarse. IsCoarse net.now coarse) }
@@ -92,7 +93,7 @@ pub fn phase_at(
     let state = start_at(alloc, net, potentials)?;
     let left = lefts_of(alloc, net, &state.flow)?;
     let active = active_nodes(alloc, net, &state.excess)?;
-    let next = residual_arcs.starts.as_slice().to_vec(alloc)?;
+    let next = links.starts.as_slice().to_vec(alloc)?;
     Ok(Coarse {
         epsilon,
         left,
@@ -158,54 +159,54 @@ fn give(
     Ok(())
 }
 
-// Pushes as much of the node's excess over its residual arc as that takes, if its reduced cost is negative.
+// Pushes as much of the node's excess over its link as that takes, if its reduced cost is negative.
 fn push_over(
     net: &Network,
     coarse: &mut Coarse,
     node: u32,
-    residual_arc: ResidualArc,
+    link: Link,
 ) -> Result<(), AllocError>
     requires coarse { IsCoarse net.now coarse.old }
     requires node_in { node < net.now.nodes }
-    requires residual_arc { IsResidualArc net.now residual_arc }
+    requires link { IsLinkWithin net.now link }
     ensures { OnOk result (IsCoarse net.now coarse.new) }
 {
-    let left = coarse.left[residual_arc.arc as usize];
-    let room = room_in(left, residual_arc.forward);
+    let from_potential = coarse.potentials[node as usize];
+    let to_potential = coarse.potentials[link.to as usize];
+    if !pays(from_potential, to_potential, link.cost) {
+        return Ok(());
+    }
+    let left = coarse.left[link.step.arc as usize];
+    let room = room_in(left, link.step.forward);
     if room == 0 {
         return Ok(());
     }
-    let from_potential = coarse.potentials[node as usize];
-    let to_potential = coarse.potentials[residual_arc.to as usize];
-    if !pays(from_potential, to_potential, residual_arc.cost) {
-        return Ok(());
-    }
     let amount = amount_of(coarse.excess[node as usize]).min(room);
-    coarse.left[residual_arc.arc as usize] = less_by(left, residual_arc.forward, amount);
-    give(net, coarse, node, residual_arc.to, amount)?;
+    coarse.left[link.step.arc as usize] = less_by(left, link.step.forward, amount);
+    give(net, coarse, node, link.to, amount)?;
     Ok(())
 }
 
-// Pushes the node's excess over its residual arcs from the next on, until it has none or they are at their end.
+// Pushes the node's excess over its links from the next on, until it has none or they are at their end.
 fn push_excess(
     net: &Network,
-    residual_arcs: &ResidualArcs,
+    links: &Links,
     coarse: &mut Coarse,
     node: u32,
 ) -> Result<(), AllocError>
     requires coarse { IsCoarse net.now coarse.old }
-    requires residual_arcs { AreResidualArcs net.now residual_arcs.now }
+    requires links { AreLinks net.now links.now }
     requires node_in { node < net.now.nodes }
     ensures { OnOk result (IsCoarse net.now coarse.new) }
 {
-    let end = residual_arcs.starts[node as usize + 1];
+    let end = links.starts[node as usize + 1];
     let mut place = coarse.next[node as usize];
     while place < end {
         push_over(
             net,
             coarse,
             node,
-            residual_arc_of(net, residual_arcs, place),
+            link_of(net, links, place),
         )?;
         if coarse.excess[node as usize] <= 0 {
             break;
@@ -227,36 +228,33 @@ fn better(best: i64, to: i64, cost: i64) -> i64
     if even > best { even } else { best }
 }
 
-// The greater of the best and the potential at which the residual arc is even, if it takes more.
-fn better_over(net: &Network, coarse: &Coarse, residual_arc: ResidualArc, best: i64) -> i64
+// The greater of the best and the potential at which the link is even, if it takes more.
+fn better_over(net: &Network, coarse: &Coarse, link: Link, best: i64) -> i64
     requires coarse { IsCoarse net.now coarse.now }
-    requires residual_arc { IsResidualArc net.now residual_arc }
+    requires link { IsLinkWithin net.now link }
     requires best_small { IsWithin 16000000000 best }
     ensures { IsWithin 16000000000 result }
 {
-    if room_in(coarse.left[residual_arc.arc as usize], residual_arc.forward) == 0 {
+    let value = better(best, coarse.potentials[link.to as usize], link.cost);
+    if value == best || room_in(coarse.left[link.step.arc as usize], link.step.forward) == 0 {
         return best;
     }
-    better(
-        best,
-        coarse.potentials[residual_arc.to as usize],
-        residual_arc.cost,
-    )
+    value
 }
 
-// The greatest potential of the node at which one of its residual arcs with room is even.
-fn best_of(net: &Network, residual_arcs: &ResidualArcs, coarse: &Coarse, node: u32) -> i64
+// The greatest potential of the node at which one of its links with room is even.
+fn best_of(net: &Network, links: &Links, coarse: &Coarse, node: u32) -> i64
     requires coarse { IsCoarse net.now coarse.now }
-    requires residual_arcs { AreResidualArcs net.now residual_arcs.now }
+    requires links { AreLinks net.now links.now }
     requires node_in { node < net.now.nodes }
     ensures { IsWithin 16000000000 result }
 {
     let mut best = -2 * MAX_COST;
-    for place in residual_arcs.starts[node as usize]..residual_arcs.starts[node as usize + 1] {
+    for place in links.starts[node as usize]..links.starts[node as usize + 1] {
         best = better_over(
             net,
             coarse,
-            residual_arc_of(net, residual_arcs, place),
+            link_of(net, links, place),
             best,
         );
     }
@@ -287,41 +285,41 @@ pub fn set_potential(net: &Network, coarse: &mut Coarse, node: u32, value: i64)
     coarse.potentials[node as usize] = value;
 }
 
-// Makes the node active, with all its residual arcs to push over again.
+// Makes the node active, with all its links to push over again.
 fn activate(
     net: &Network,
-    residual_arcs: &ResidualArcs,
+    links: &Links,
     coarse: &mut Coarse,
     node: u32,
 ) -> Result<(), AllocError>
     requires coarse { IsCoarse net.now coarse.old }
-    requires residual_arcs { AreResidualArcs net.now residual_arcs.now }
+    requires links { AreLinks net.now links.now }
     requires node_in { node < net.now.nodes }
     ensures { OnOk result (IsCoarse net.now coarse.new) }
 {
-    coarse.next[node as usize] = residual_arcs.starts[node as usize];
+    coarse.next[node as usize] = links.starts[node as usize];
     coarse.active.push(node)?;
     Ok(())
 }
 
-// Relabels the node, so that it has a residual arc of negative reduced cost. Where that would be below the least potential,
+// Relabels the node, so that it has a link of negative reduced cost. Where that would be below the least potential,
 // it keeps its excess.
 fn relabel(
     net: &Network,
-    residual_arcs: &ResidualArcs,
+    links: &Links,
     coarse: &mut Coarse,
     node: u32,
 ) -> Result<(), AllocError>
     requires coarse { IsCoarse net.now coarse.old }
-    requires residual_arcs { AreResidualArcs net.now residual_arcs.now }
+    requires links { AreLinks net.now links.now }
     requires node_in { node < net.now.nodes }
     ensures { OnOk result (IsCoarse net.now coarse.new) }
 {
-    let value = relabelled(best_of(net, residual_arcs, coarse, node), coarse.epsilon);
+    let value = relabelled(best_of(net, links, coarse, node), coarse.epsilon);
     if value < coarse.potentials[node as usize] {
         set_potential(net, coarse, node, value);
         coarse.relabels = coarse.relabels.saturating_add(1);
-        activate(net, residual_arcs, coarse, node)?;
+        activate(net, links, coarse, node)?;
     }
     Ok(())
 }
@@ -329,18 +327,18 @@ fn relabel(
 /// Discharges the node: pushes its excess, and relabels it where some is left.
 pub fn discharge(
     net: &Network,
-    residual_arcs: &ResidualArcs,
+    links: &Links,
     coarse: &mut Coarse,
     node: u32,
 ) -> Result<(), AllocError>
     requires coarse { IsCoarse net.now coarse.old }
-    requires residual_arcs { AreResidualArcs net.now residual_arcs.now }
+    requires links { AreLinks net.now links.now }
     requires node_in { node < net.now.nodes }
     ensures { OnOk result (IsCoarse net.now coarse.new) }
 {
-    push_excess(net, residual_arcs, coarse, node)?;
+    push_excess(net, links, coarse, node)?;
     if coarse.excess[node as usize] > 0 {
-        relabel(net, residual_arcs, coarse, node)?;
+        relabel(net, links, coarse, node)?;
     }
     Ok(())
 }

@@ -5,8 +5,8 @@ ghost use Rattle.match_rules.specs.Sums.{when};
 ghost use Rattle.bounded_network.specs.Network.{IsNetwork, AreViolated, arc_at, is_marked};
 ghost use Rattle.flow_solver.specs.State.{IsWithin};
 
-use crate::step::{arc_count, arc_of};
 use bounded_network::{Arc, Network};
+use residual_arcs::{arc_count, arc_of};
 use std::alloc::{AllocError, Global};
 
 // The greatest and the least of the potentials, and 0, halved.

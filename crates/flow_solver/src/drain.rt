@@ -2,38 +2,35 @@
 ghost use Rattle.std.specs.Prelude.{◌≡◌, ◌<◌, length, ℕ, ℤ, false, pos, ◌≤ℤ◌, ◌<ℤ◌, Ok, IfOk, IfSome, IfNone, IsNone};
 ghost use Rattle.bounded_network.specs.Network.{AreViolated};
 ghost use Rattle.flow_solver.specs.declared.drain.Outcome.TheVariants.{Drained, Stuck, GivenUp};
-ghost use Rattle.flow_solver.specs.Residual.{AreResidualArcs};
+ghost use Rattle.residual_arcs.specs.Links.{AreLinks};
 ghost use Rattle.flow_solver.specs.Search.{IsBlank, reach_at};
-ghost use Rattle.flow_solver.specs.Links.{AreLinks};
 ghost use Rattle.flow_solver.specs.State.{IsState, AreCalm, excess_at};
 
 use crate::blank::{clear, set_out};
-use crate::links::Links;
 use crate::path::augment;
-use crate::residual::{ResidualArcs, degree_of};
 use crate::search::{Reach, Search, run};
 use crate::state::State;
 use bounded_network::Network;
+use residual_arcs::{Links, degree_of};
 use std::alloc::AllocError;
 
-// The number of residual arcs at the nodes of the tree but the last, whose arcs the search doesn't go over.
-fn arcs_at(net: &Network, residual_arcs: &ResidualArcs, tree: &[Reach]) -> usize
-    requires residual_arcs { AreResidualArcs net.now residual_arcs.now }
+// The number of links at the nodes of the tree but the last, whose arcs the search doesn't go over.
+fn arcs_at(net: &Network, links: &Links, tree: &[Reach]) -> usize
+    requires links { AreLinks net.now links.now }
     requires nodes { (i : ℕ) → i < length tree.now → (reach_at tree.now i).node < net.now.nodes }
 {
     let mut count: usize = 0;
     for place in 0..tree.len().saturating_sub(1) {
-        count = count.saturating_add(degree_of(net, residual_arcs, tree[place].node));
+        count = count.saturating_add(degree_of(net, links, tree[place].node));
     }
     count
 }
 
-/// Carries as much as one path takes from the source to the nearest node with a deficit, and says how many residual arcs
+/// Carries as much as one path takes from the source to the nearest node with a deficit, and says how many links
 /// the search went over. Nothing is carried where no such node is reached: the settled nodes then can't get rid of the excess.
 pub fn carry_once(
     net: &Network,
     links: &Links,
-    residual_arcs: &ResidualArcs,
     state: &mut State,
     search: &mut Search,
     source: u32,
@@ -41,7 +38,6 @@ pub fn carry_once(
     requires kept { IsState net.now state.old.flow.items state.old.excess.items state.old.potentials.items }
     requires calm { AreCalm net.now state.old.excess.items state.old.potentials.items }
     requires links { AreLinks net.now links.now }
-    requires residual_arcs { AreResidualArcs net.now residual_arcs.now }
     requires blank { IsBlank net.now search.old }
     requires source_in { source < net.now.nodes }
     requires rich { pos 0 <ℤ excess_at state.old.excess.items source }
@@ -60,7 +56,7 @@ pub fn carry_once(
     if !found {
         return Ok(None);
     }
-    let scanned = arcs_at(net, residual_arcs, &search.tree);
+    let scanned = arcs_at(net, links, &search.tree);
     augment(net, state, search);
     clear(net, search);
     Ok(Some(scanned))
@@ -90,12 +86,11 @@ fn is_spent(patience: &mut Option<usize>, scanned: usize) -> bool
     }
 }
 
-/// Carries away what the source has too much, for as long as the patience lasts: so many residual arcs may be gone over, or
+/// Carries away what the source has too much, for as long as the patience lasts: so many links may be gone over, or
 /// any number where it is `None`.
 pub fn drain(
     net: &Network,
     links: &Links,
-    residual_arcs: &ResidualArcs,
     state: &mut State,
     search: &mut Search,
     source: u32,
@@ -104,7 +99,6 @@ pub fn drain(
     requires kept { IsState net.now state.old.flow.items state.old.excess.items state.old.potentials.items }
     requires calm { AreCalm net.now state.old.excess.items state.old.potentials.items }
     requires links { AreLinks net.now links.now }
-    requires residual_arcs { AreResidualArcs net.now residual_arcs.now }
     requires blank { IsBlank net.now search.old }
     requires source_in { source < net.now.nodes }
     ensures kept { IsState net.now state.new.flow.items state.new.excess.items state.new.potentials.items }
@@ -118,7 +112,7 @@ pub fn drain(
 {
     let _nodes = net.nodes();
     'draining: while state.excess[source as usize] > 0 {
-        let Some(scanned) = carry_once(net, links, residual_arcs, state, search, source)? else {
+        let Some(scanned) = carry_once(net, links, state, search, source)? else {
             return Ok(Outcome::Stuck);
         };
         let spent = is_spent(patience, scanned);

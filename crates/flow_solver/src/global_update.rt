@@ -4,14 +4,16 @@
 // by epsilon until it is. A search backwards from the deficits finds how far each node is, until all excesses are reached.
 ghost use Rattle.std.specs.Prelude.{◌≡◌, ◌+◌, ◌<◌, length, IfOk, OnOk};
 ghost use Rattle.flow_solver.specs.Coarse.{IsCoarse};
-ghost use Rattle.flow_solver.specs.Residual.{IsResidualArc, AreResidualArcs};
+ghost use Rattle.flow_solver.specs.Links.{IsLinkWithin};
+ghost use Rattle.residual_arcs.specs.Links.{AreLinks};
 ghost use Rattle.flow_solver.specs.State.{IsWithin};
 
 use crate::coarse::{Coarse, relabelled, room_in, set_potential};
 use crate::queue::{Queue, empty, pop, push};
-use crate::residual::{ResidualArc, ResidualArcs, residual_arc_of};
+use crate::links::link_of;
 use crate::search::UNREACHED;
 use bounded_network::Network;
+use residual_arcs::{Link, Links};
 use std::alloc::{AllocError, Global};
 
 /// How far each node is from a deficit, the nodes that wait, the distance that was settled last, and how many nodes with an
@@ -24,7 +26,7 @@ pub struct Nearness {
     missing: u32,
 }
 
-// The reduced cost of the step that comes back over a residual arc at the cost, from one potential to the other.
+// The reduced cost of the step that comes back over a link at the cost, from one potential to the other.
 fn reduced_back(from: i64, to: i64, cost: i64) -> i64
     requires from_small { IsWithin 8000000000 from }
     requires to_small { IsWithin 8000000000 to }
@@ -66,51 +68,47 @@ fn from_deficits(alloc: Global, net: &Network, coarse: &Coarse) -> Result<Nearne
     })
 }
 
-// Reaches the end of the node's residual arc, if a step with room comes from there.
+// Reaches the end of the node's link, if a step with room comes from there.
 fn reach_over(
     net: &Network,
     coarse: &Coarse,
     near: &mut Nearness,
     node: u32,
-    residual_arc: ResidualArc,
+    link: Link,
 ) -> Result<(), AllocError>
     requires coarse { IsCoarse net.now coarse.now }
     requires near { length near.old.distances.items ≡ net.now.nodes }
     requires node_in { node < net.now.nodes }
-    requires residual_arc { IsResidualArc net.now residual_arc }
+    requires link { IsLinkWithin net.now link }
     ensures { OnOk result (length near.new.distances.items ≡ net.now.nodes) }
 {
-    if room_in(
-        coarse.left[residual_arc.arc as usize],
-        !residual_arc.forward,
-    ) == 0
-    {
-        return Ok(());
-    }
     let reduced = reduced_back(
-        coarse.potentials[residual_arc.to as usize],
+        coarse.potentials[link.to as usize],
         coarse.potentials[node as usize],
-        residual_arc.cost,
+        link.cost,
     );
     let distance = near.distances[node as usize].saturating_add(length_of(reduced, coarse.epsilon));
-    if distance >= near.distances[residual_arc.to as usize] {
+    if distance >= near.distances[link.to as usize] {
         return Ok(());
     }
-    near.distances[residual_arc.to as usize] = distance;
-    push(&mut near.waiting, distance, residual_arc.to)?;
+    if room_in(coarse.left[link.step.arc as usize], !link.step.forward) == 0 {
+        return Ok(());
+    }
+    near.distances[link.to as usize] = distance;
+    push(&mut near.waiting, distance, link.to)?;
     Ok(())
 }
 
 // Settles the node: reaches what steps lead to it from.
 fn settle_near(
     net: &Network,
-    residual_arcs: &ResidualArcs,
+    links: &Links,
     coarse: &Coarse,
     near: &mut Nearness,
     node: u32,
 ) -> Result<(), AllocError>
     requires coarse { IsCoarse net.now coarse.now }
-    requires residual_arcs { AreResidualArcs net.now residual_arcs.now }
+    requires links { AreLinks net.now links.now }
     requires near { length near.old.distances.items ≡ net.now.nodes }
     requires node_in { node < net.now.nodes }
     ensures { OnOk result (length near.new.distances.items ≡ net.now.nodes) }
@@ -119,9 +117,9 @@ fn settle_near(
     if coarse.excess[node as usize] > 0 {
         near.missing = near.missing.saturating_sub(1);
     }
-    for place in residual_arcs.starts[node as usize]..residual_arcs.starts[node as usize + 1] {
-        let residual_arc = residual_arc_of(net, residual_arcs, place);
-        reach_over(net, coarse, near, node, residual_arc)?;
+    for place in links.starts[node as usize]..links.starts[node as usize + 1] {
+        let link = link_of(net, links, place);
+        reach_over(net, coarse, near, node, link)?;
     }
     Ok(())
 }
@@ -129,12 +127,12 @@ fn settle_near(
 // Settles the nearest node that waits, if it isn't settled already. Says whether the search goes on.
 fn settle_next(
     net: &Network,
-    residual_arcs: &ResidualArcs,
+    links: &Links,
     coarse: &Coarse,
     near: &mut Nearness,
 ) -> Result<bool, AllocError>
     requires coarse { IsCoarse net.now coarse.now }
-    requires residual_arcs { AreResidualArcs net.now residual_arcs.now }
+    requires links { AreLinks net.now links.now }
     requires near { length near.old.distances.items ≡ net.now.nodes }
     ensures { OnOk result (length near.new.distances.items ≡ net.now.nodes) }
 {
@@ -142,7 +140,7 @@ fn settle_next(
         return Ok(false);
     };
     if node < net.nodes() && near.distances[node as usize] == distance {
-        settle_near(net, residual_arcs, coarse, near, node)?;
+        settle_near(net, links, coarse, near, node)?;
     }
     Ok(near.missing > 0)
 }
@@ -156,9 +154,9 @@ fn fallen(potential: i64, epsilon: i64, steps: u64) -> i64
 }
 
 // Lowers the potential of each node by its distance. What the search didn't come to falls as far as what it settled last.
-fn lower_all(net: &Network, residual_arcs: &ResidualArcs, coarse: &mut Coarse, near: &Nearness)
+fn lower_all(net: &Network, links: &Links, coarse: &mut Coarse, near: &Nearness)
     requires coarse { IsCoarse net.now coarse.old }
-    requires residual_arcs { AreResidualArcs net.now residual_arcs.now }
+    requires links { AreLinks net.now links.now }
     requires near { length near.now.distances.items ≡ net.now.nodes }
     ensures { IsCoarse net.now coarse.new }
 {
@@ -166,7 +164,7 @@ fn lower_all(net: &Network, residual_arcs: &ResidualArcs, coarse: &mut Coarse, n
         let steps = near.distances[node as usize].min(near.last);
         let value = fallen(coarse.potentials[node as usize], coarse.epsilon, steps);
         set_potential(net, coarse, node, value);
-        coarse.next[node as usize] = residual_arcs.starts[node as usize];
+        coarse.next[node as usize] = links.starts[node as usize];
     }
 }
 
@@ -174,20 +172,20 @@ fn lower_all(net: &Network, residual_arcs: &ResidualArcs, coarse: &mut Coarse, n
 pub fn update_globally(
     alloc: Global,
     net: &Network,
-    residual_arcs: &ResidualArcs,
+    links: &Links,
     coarse: &mut Coarse,
 ) -> Result<(), AllocError>
     requires coarse { IsCoarse net.now coarse.old }
-    requires residual_arcs { AreResidualArcs net.now residual_arcs.now }
+    requires links { AreLinks net.now links.now }
     ensures { OnOk result (IsCoarse net.now coarse.new) }
 {
     let mut near = from_deficits(alloc, net, coarse)?;
     for _settled in 0..net.nodes() as usize + 2 * net.arcs().len() {
-        let goes_on = settle_next(net, residual_arcs, coarse, &mut near)?;
+        let goes_on = settle_next(net, links, coarse, &mut near)?;
         if !goes_on {
             break;
         }
     }
-    lower_all(net, residual_arcs, coarse, &near);
+    lower_all(net, links, coarse, &near);
     Ok(())
 }

@@ -3,8 +3,8 @@ ghost use Rattle.std.specs.Prelude.{◌≡◌, ◌<◌, ◌≤◌, length, ℕ, 
 ghost use Rattle.bounded_network.specs.Network.{IsNetwork, potential_at};
 ghost use Rattle.flow_solver.specs.State.{IsWithin};
 
-use crate::step::{arc_count, arc_of};
 use bounded_network::{MAX_COST, Network};
+use residual_arcs::{arc_count, arc_of};
 use std::alloc::{AllocError, Global};
 
 // How often all arcs are gone over.

@@ -1,13 +1,14 @@
 // How far the nodes are from a deficit, over steps of reduced cost 0.
 ghost use Rattle.std.specs.Prelude.{◌≡◌, ◌<◌, length, IfOk, OnOk, All};
 ghost use Rattle.flow_solver.specs.Blocking.{AreLevels};
-ghost use Rattle.flow_solver.specs.Residual.{IsResidualArc, AreResidualArcs};
+ghost use Rattle.flow_solver.specs.Links.{IsLinkWithin};
+ghost use Rattle.residual_arcs.specs.Links.{AreLinks};
 ghost use Rattle.flow_solver.specs.State.{IsState};
 
-use crate::residual::{ResidualArc, ResidualArcs, residual_arc_of};
+use crate::links::link_of;
 use crate::state::{State, left_at};
-use crate::step::Step;
 use bounded_network::Network;
+use residual_arcs::{Link, Links, Step};
 use std::alloc::{AllocError, Global};
 
 /// The level of a node that is not reached.
@@ -20,15 +21,15 @@ pub struct Levels {
     pub reached: Vec<u32>,
 }
 
-/// Whether the reduced cost of the node's residual arc is 0.
-pub fn is_even(net: &Network, state: &State, node: u32, residual_arc: ResidualArc) -> bool
+/// Whether the reduced cost of the node's link is 0.
+pub fn is_even(net: &Network, state: &State, node: u32, link: Link) -> bool
     requires kept { IsState net.now state.now.flow.items state.now.excess.items state.now.potentials.items }
     requires node_in { node < net.now.nodes }
-    requires residual_arc { IsResidualArc net.now residual_arc }
+    requires link { IsLinkWithin net.now link }
 {
     let _nodes = net.nodes();
-    state.potentials[node as usize].saturating_add(residual_arc.cost)
-        == state.potentials[residual_arc.to as usize]
+    state.potentials[node as usize].saturating_add(link.cost)
+        == state.potentials[link.to as usize]
 }
 
 // Notes the level of a node.
@@ -43,52 +44,52 @@ fn reach(net: &Network, levels: &mut Levels, node: u32, level: u32) -> Result<()
     Ok(())
 }
 
-// Reaches the node that the residual arc leads to, if a step of reduced cost 0 with room comes from there.
+// Reaches the node that the link leads to, if a step of reduced cost 0 with room comes from there.
 fn reach_by(
     net: &Network,
     state: &State,
     levels: &mut Levels,
     node: u32,
-    residual_arc: ResidualArc,
+    link: Link,
 ) -> Result<(), AllocError>
     requires kept { IsState net.now state.now.flow.items state.now.excess.items state.now.potentials.items }
     requires levels { AreLevels net.now levels.old }
     requires node_in { node < net.now.nodes }
-    requires residual_arc { IsResidualArc net.now residual_arc }
+    requires link { IsLinkWithin net.now link }
     ensures { OnOk result (AreLevels net.now levels.new) }
 {
-    let seen = levels.each[residual_arc.to as usize] != FAR;
-    if seen || !is_even(net, state, node, residual_arc) {
+    let seen = levels.each[link.to as usize] != FAR;
+    if seen || !is_even(net, state, node, link) {
         return Ok(());
     }
     let back = Step {
-        arc: residual_arc.arc,
-        forward: !residual_arc.forward,
+        arc: link.step.arc,
+        forward: !link.step.forward,
     };
     if left_at(net, state, back) == 0 {
         return Ok(());
     }
     let level = levels.each[node as usize].saturating_add(1);
-    reach(net, levels, residual_arc.to, level)
+    reach(net, levels, link.to, level)
 }
 
 // Reaches all nodes from which a step leads to the node.
 fn reach_from(
     net: &Network,
-    residual_arcs: &ResidualArcs,
+    links: &Links,
     state: &State,
     levels: &mut Levels,
     node: u32,
 ) -> Result<(), AllocError>
     requires kept { IsState net.now state.now.flow.items state.now.excess.items state.now.potentials.items }
-    requires residual_arcs { AreResidualArcs net.now residual_arcs.now }
+    requires links { AreLinks net.now links.now }
     requires levels { AreLevels net.now levels.old }
     requires node_in { node < net.now.nodes }
     ensures { OnOk result (AreLevels net.now levels.new) }
 {
-    for place in residual_arcs.starts[node as usize]..residual_arcs.starts[node as usize + 1] {
-        let residual_arc = residual_arc_of(net, residual_arcs, place);
-        reach_by(net, state, levels, node, residual_arc)?;
+    for place in links.starts[node as usize]..links.starts[node as usize + 1] {
+        let link = link_of(net, links, place);
+        reach_by(net, state, levels, node, link)?;
     }
     Ok(())
 }
@@ -114,11 +115,11 @@ fn deficits(alloc: Global, net: &Network, state: &State) -> Result<Levels, Alloc
 pub fn levels_of(
     alloc: Global,
     net: &Network,
-    residual_arcs: &ResidualArcs,
+    links: &Links,
     state: &State,
 ) -> Result<Levels, AllocError>
     requires kept { IsState net.now state.now.flow.items state.now.excess.items state.now.potentials.items }
-    requires residual_arcs { AreResidualArcs net.now residual_arcs.now }
+    requires links { AreLinks net.now links.now }
     ensures { IfOk result (λ levels. AreLevels net.now levels) }
 {
     let mut levels = deficits(alloc, net, state)?;
@@ -127,7 +128,7 @@ pub fn levels_of(
             break;
         }
         let node = levels.reached[place];
-        reach_from(net, residual_arcs, state, &mut levels, node)?;
+        reach_from(net, links, state, &mut levels, node)?;
     }
     Ok(levels)
 }

@@ -26,13 +26,11 @@ mod links;
 mod path;
 mod push;
 mod queue;
-mod residual;
 mod scaling;
 mod search;
 mod solver;
 mod start;
 mod state;
-mod step;
 mod unit;
 
 pub use solver::{Solution, solve};

@@ -6,8 +6,8 @@ ghost use Rattle.flow_solver.specs.Step.{step_reduced};
 
 use crate::search::amount_of;
 use crate::state::{State, carry, left_at};
-use crate::step::{Step, arc_of, cost, end, start};
 use bounded_network::Network;
+use residual_arcs::{Step, arc_of, cost, end, start};
 
 // Whether a step at the cost between the potentials has reduced cost 0.
 fn cancels(cost: i64, from: i64, to: i64) -> bool

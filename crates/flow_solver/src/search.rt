@@ -3,17 +3,17 @@ ghost use Rattle.std.specs.Prelude.{◌≡◌, ◌≢◌, ◌+◌, ◌-◌, ◌^
 ghost use Rattle.std.specs.Bool.{OnTrue, OnFalse};
 ghost use Rattle.std.specs.BinaryHeap.{heap_items, heap_len};
 ghost use Rattle.bounded_network.specs.Network.{NetworkValue, IsNetwork, arc_at, potential_at};
-ghost use Rattle.flow_solver.specs.Links.{AreLinks};
+ghost use Rattle.residual_arcs.specs.Links.{AreLinks, IsLink, start_at};
 ghost use Rattle.flow_solver.specs.Queue.{Waits};
 ghost use Rattle.flow_solver.specs.State.{IsWithin, IsState, excess_at};
-ghost use Rattle.flow_solver.specs.Step.{start_of, end_of, step_cost, left_on, step_reduced};
+ghost use Rattle.residual_arcs.specs.Step.{start_of, end_of, step_cost, left_on};
+ghost use Rattle.flow_solver.specs.Step.{step_reduced};
 ghost use Rattle.flow_solver.specs.Search.{IsSearch, IsRelaxed, IsRelaxedFrom, Relaxes, IsReach, SameTree, IsFound, IsClosed, distance_at, reach_at, is_settled};
 
-use crate::links::{Links, bound_before, last_bound};
 use crate::queue::{Queue, pop, push};
-use crate::state::State;
-use crate::step::{Step, arc_of, cost, end, left};
-use bounded_network::{Arc, Network};
+use crate::state::{State, left_at};
+use bounded_network::Network;
+use residual_arcs::{Link, Links, Step};
 use std::alloc::AllocError;
 
 /// The distance of a node that is not reached.
@@ -41,29 +41,40 @@ pub struct Search {
 }
 
 // The reduced cost of a step from its cost and the potentials at its ends.
-fn reduced(cost: i64, from: i64, to: i64) -> u64
+fn reduced(cost: i64, from: i64, to: i64) -> i64
     requires cost_small { IsWithin 8000000000 cost }
     requires from_small { IsWithin (2 ^ 52) from }
     requires to_small { IsWithin (2 ^ 52) to }
-    requires not_negative { pos 0 ≤ℤ ((cost +ℤ from) -ℤ to) }
-    ensures { pos result ≡ (cost +ℤ from) -ℤ to }
+    ensures { result ≡ (cost +ℤ from) -ℤ to }
 {
-    (cost + from - to) as u64
+    cost + from - to
 }
 
-// The distance of the step's end by way of the step, from the node that was settled last.
-fn over(net: &Network, state: &State, search: &Search, step: Step) -> u64
+// The reduced cost of the link's step, from the node that was settled last.
+fn reduced_over(net: &Network, state: &State, search: &Search, link: Link) -> i64
+    requires kept { IsState net.now state.now.flow.items state.now.excess.items state.now.potentials.items }
+    requires node_in { search.now.node < net.now.nodes }
+    requires link { IsLink net.now link }
+    requires starts { start_at net.now link ≡ search.now.node }
+    ensures { result ≡ step_reduced (arc_at net.now link.step.arc) link.step.forward state.now.potentials.items }
+{
+    let _nodes = net.nodes();
+    let from = state.potentials[search.node as usize];
+    let to = state.potentials[link.to as usize];
+    reduced(link.cost, from, to)
+}
+
+// The distance of the link's end by way of its step, from the node that was settled last.
+fn over(net: &Network, state: &State, search: &Search, link: Link, reduced: u64) -> u64
     requires kept { IsState net.now state.now.flow.items state.now.excess.items state.now.potentials.items }
     requires search { IsSearch net.now state.now search.now }
-    requires arc_in { step.arc < length net.now.arcs }
-    requires starts { start_of (arc_at net.now step.arc) step.forward ≡ search.now.node }
-    requires room { 0 < left_on (arc_at net.now step.arc) (slice_index state.now.flow.items step.arc) step.forward }
-    ensures { pos result ≡ pos (distance_at search.now.distances.items search.now.node) +ℤ step_reduced (arc_at net.now step.arc) step.forward state.now.potentials.items }
+    requires link { IsLink net.now link }
+    requires starts { start_at net.now link ≡ search.now.node }
+    requires reduced { pos reduced ≡ step_reduced (arc_at net.now link.step.arc) link.step.forward state.now.potentials.items }
+    ensures { pos result ≡ pos (distance_at search.now.distances.items search.now.node) +ℤ step_reduced (arc_at net.now link.step.arc) link.step.forward state.now.potentials.items }
 {
-    let arc = arc_of(net, step.arc);
-    let from = state.potentials[search.node as usize];
-    let to = state.potentials[end(arc, step.forward) as usize];
-    search.distances[search.node as usize] + reduced(cost(arc, step.forward), from, to)
+    let _nodes = net.nodes();
+    search.distances[search.node as usize] + reduced
 }
 
 // Notes that the node is reached at the distance.
@@ -102,42 +113,51 @@ fn by(search: &Search, step: Step, to: u32, left: u64) -> Reach
     }
 }
 
-// Relaxes a step from the node that was settled last.
-fn relax(net: &Network, state: &State, search: &mut Search, step: Step) -> Result<(), AllocError>
+// Notes that the link's end is reached by its step at the distance, if it isn't reached nearer and something is left on the
+// step. That is asked last, since most steps lead to no nearer node.
+fn reach_over(
+    net: &Network,
+    state: &State,
+    search: &mut Search,
+    link: Link,
+    distance: u64,
+) -> Result<(), AllocError>
     requires kept { IsState net.now state.now.flow.items state.now.excess.items state.now.potentials.items }
     requires search { IsSearch net.now state.now search.old }
-    requires arc_in { step.arc < length net.now.arcs }
-    requires starts { start_of (arc_at net.now step.arc) step.forward ≡ search.old.node }
+    requires link { IsLink net.now link }
+    requires starts { start_at net.now link ≡ search.old.node }
+    requires distance { pos distance ≡ pos (distance_at search.old.distances.items search.old.node) +ℤ step_reduced (arc_at net.now link.step.arc) link.step.forward state.now.potentials.items }
     ensures relaxes { OnOk result (Relaxes net.now state.now search.old search.new) }
-    ensures relaxed { OnOk result (IsRelaxed net.now state.now search.new.distances.items search.old.node step.arc step.forward) }
+    ensures relaxed { OnOk result (IsRelaxed net.now state.now search.new.distances.items search.old.node link.step.arc link.step.forward) }
 {
-    let arc = arc_of(net, step.arc);
-    let left = left(arc, state.flow[step.arc as usize], step.forward);
+    let _nodes = net.nodes();
+    if distance >= search.distances[link.to as usize] {
+        return Ok(());
+    }
+    let left = left_at(net, state, link.step);
     if left == 0 {
         return Ok(());
     }
-    let to = end(arc, step.forward);
-    let distance = over(net, state, search, step);
-    if distance >= search.distances[to as usize] {
-        return Ok(());
-    }
-    let reach = by(search, step, to, left);
-    note(search, to, distance, reach)?;
+    let reach = by(search, link.step, link.to, left);
+    note(search, link.to, distance, reach)?;
     Ok(())
 }
 
-// Relaxes the step over the arc from the node that was settled last, which is one of its ends.
-fn relax_arc(net: &Network, state: &State, search: &mut Search, arc: u32) -> Result<(), AllocError>
+// Relaxes the link's step, from the node that was settled last. Where the reduced cost is negative, nothing is left on it.
+fn relax(net: &Network, state: &State, search: &mut Search, link: Link) -> Result<(), AllocError>
     requires kept { IsState net.now state.now.flow.items state.now.excess.items state.now.potentials.items }
     requires search { IsSearch net.now state.now search.old }
-    requires arc_in { arc < length net.now.arcs }
-    requires at { ((arc_at net.now arc).tail ≡ search.old.node) ⊎ ((arc_at net.now arc).head ≡ search.old.node) }
+    requires link { IsLink net.now link }
+    requires starts { start_at net.now link ≡ search.old.node }
     ensures relaxes { OnOk result (Relaxes net.now state.now search.old search.new) }
-    ensures relaxed { OnOk result ((forward : Bool) → IsRelaxed net.now state.now search.new.distances.items search.old.node arc forward) }
+    ensures relaxed { OnOk result (IsRelaxed net.now state.now search.new.distances.items search.old.node link.step.arc link.step.forward) }
 {
-    let forward = arc_of(net, arc).tail == search.node;
-    relax(net, state, search, Step { arc, forward })?;
-    Ok(())
+    let reduced = reduced_over(net, state, search, link);
+    if reduced < 0 {
+        return Ok(());
+    }
+    let distance = over(net, state, search, link, reduced as u64);
+    reach_over(net, state, search, link, distance)
 }
 
 // Relaxes all steps from the node that was settled last.
@@ -152,13 +172,11 @@ fn relax_all(
     requires search { IsSearch net.now state.now search.old }
     ensures same { OnOk result (SameTree search.old search.new) }
     ensures search { OnOk result (IsSearch net.now state.now search.new) }
-    ensures relaxed { OnOk result (IsRelaxedFrom net.now state.now search.new.distances.items search.old.node 0) }
+    ensures relaxed { OnOk result (IsRelaxedFrom net.now state.now search.new.distances.items search.old.node) }
 {
-    let mut bound = last_bound(net, links, search.node);
-    while bound > 0 {
-        let place = bound - 1;
-        relax_arc(net, state, search, place)?;
-        bound = bound_before(net, links, search.node, place);
+    let node = search.node as usize;
+    for place in links.starts[node]..links.starts[node + 1] {
+        relax(net, state, search, links.all[place])?;
     }
     Ok(())
 }

@@ -4,8 +4,8 @@ ghost use Rattle.flow_solver.specs.State.{AreBounded};
 ghost use Rattle.flow_solver.specs.Solution.{IfSolved, IfUnsat};
 
 use crate::balance::balanced;
-use crate::links::links_of;
 use bounded_network::Network;
+use residual_arcs::links_of;
 use std::alloc::{AllocError, Global};
 
 /// What the solver answers: nothing else is ever answered, whatever the network.

@@ -4,8 +4,8 @@ ghost use Rattle.bounded_network.specs.Network.{IsArc, IsNetwork, arc_at, potent
 ghost use Rattle.flow_solver.specs.State.{IsWithin, IsState, Suits, AllSuit, AreExcesses};
 
 use crate::state::{State, shift};
-use crate::step::{arc_count, arc_of};
 use bounded_network::{Arc, Network};
+use residual_arcs::{arc_count, arc_of};
 use std::alloc::{AllocError, Global};
 
 // The room where the reduced cost is negative, and else the floor.

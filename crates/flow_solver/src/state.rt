@@ -2,10 +2,11 @@
 ghost use Rattle.std.specs.Prelude.{◌≡◌, ◌+◌, ◌*◌, ◌^◌, ◌<◌, ◌≤◌, ◌==◌, length, ℕ, ℤ, pos, negsuc, ◌≤ℤ◌, ◌+ℤ◌, ◌-ℤ◌, slice_index, slice_set, IfOk};
 ghost use Rattle.bounded_network.specs.Network.{NetworkValue, IsNetwork, arc_at, potential_at};
 ghost use Rattle.flow_solver.specs.State.{IsWithin, excess_at, IsState, IsShifted};
-ghost use Rattle.flow_solver.specs.Step.{start_of, end_of, left_on, step_reduced, carried};
+ghost use Rattle.residual_arcs.specs.Step.{start_of, end_of, left_on, carried};
+ghost use Rattle.flow_solver.specs.Step.{step_reduced};
 
-use crate::step::{Step, arc_of, carry_on, end, left, start};
 use bounded_network::Network;
+use residual_arcs::{Step, arc_of, carry_on, end, left, start};
 
 /// An amount for each arc, the excess of each node, what enters it less what leaves it, and a potential for each node.
 #[derive(Drop)]

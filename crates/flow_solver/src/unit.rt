@@ -3,8 +3,8 @@ ghost use Rattle.std.specs.Prelude.{◌≡◌, length, ℕ};
 ghost use Rattle.bounded_network.specs.Network.{potential_at};
 ghost use Rattle.flow_solver.specs.State.{IsWithin};
 
-use crate::step::{arc_count, arc_of};
 use bounded_network::{MAX_COST, Network};
+use residual_arcs::{arc_count, arc_of};
 
 // No two numbers of 64 bits take more steps of Euclid's algorithm.
 const STEPS: u32 = 96;

@@ -1,6 +1,6 @@
 use Rattle.std.proofs.Common.{◌≡◌, ◌∙◌}
 use Rattle.std.proofs.lemmas.Bool.{OnFalse_at, OnTrue_at}
-use Rattle.flow_solver.proofs.Endings.{AreViolated-from_closed}
+use Rattle.flow_solver.proofs.Endings.{AreViolated-from_settled}
 use Rattle.flow_solver.proofs.Runs.{IsClearable-from_search}
 use Rattle.flow_solver.proofs.drain.carry_once.Goals as goal
 
@@ -8,7 +8,7 @@ pub returns-then-not-found-clause-violated : goal.returns-then-not-found-clause-
 returns-then-not-found-clause-violated c =
     let source : c.run.new.search.source ≡ c.args.source = c.in_ok-found.ensures.source ∙ c.in_ok-set_out.ensures.source in
     let closed = OnFalse_at c.if-not-found.true c.in_ok-found.ensures.closed in
-    AreViolated-from_closed c.args.net.now c.args.state.now c.args.source c.run.new.search.settled.items c.nodes-nodes.ensures.kept c.requires.kept (rw source at closed) c.requires.source_in c.requires.rich
+    AreViolated-from_settled c.args.net.now c.args.state.now c.args.source c.run.new.search.settled.items c.nodes-nodes.ensures.kept c.requires.kept (rw source at closed) c.requires.source_in c.requires.rich
 
 pub clear-requires : goal.clear-requires
 clear-requires c =

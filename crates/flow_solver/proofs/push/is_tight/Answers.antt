@@ -3,8 +3,9 @@ use Rattle.std.specs.Prelude.{pos}
 use Rattle.std.proofs.lemmas.Int.{ints}
 use Rattle.std.proofs.lemmas.List.{get_or_read}
 use Rattle.bounded_network.specs.Network.{arc_at, potential_at}
-use Rattle.flow_solver.specs.Step.{start_of, end_of}
-use Rattle.flow_solver.proofs.Bounds.{potential_within, step_reduced-parts, end_in, start_in}
+use Rattle.residual_arcs.specs.Step.{start_of, end_of}
+use Rattle.residual_arcs.proofs.Steps.{end_in, start_in}
+use Rattle.flow_solver.proofs.Bounds.{potential_within, step_reduced-parts}
 use Rattle.flow_solver.proofs.push.is_tight.Goals as goal
 use Rattle.flow_solver.proofs.push.is_tight.Goals.{After-cost}
 

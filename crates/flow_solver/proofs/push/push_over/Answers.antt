@@ -4,8 +4,8 @@ use Rattle.std.proofs.lemmas.Int.{ints}
 use Rattle.std.proofs.lemmas.List.{get_or_read}
 use Rattle.bounded_network.specs.Network.{arc_at}
 use Rattle.flow_solver.specs.State.{excess_at}
-use Rattle.flow_solver.specs.Step.{start_of}
-use Rattle.flow_solver.proofs.Bounds.{start_in}
+use Rattle.residual_arcs.specs.Step.{start_of}
+use Rattle.residual_arcs.proofs.Steps.{start_in}
 use Rattle.flow_solver.proofs.Pushes.{calm_pushed}
 use Rattle.flow_solver.proofs.push.push_over.Goals as goal
 

@@ -1,17 +1,12 @@
-use Rattle.std.proofs.Common.{◌≡◌, ◌<◌, ◌≤◌, ◌-◌, ◌⊎◌, length}
-use Rattle.bounded_network.specs.Network.{arc_at}
-use Rattle.flow_solver.specs.Search.{IsSearch, SameTree, IsRelaxedFrom}
+use Rattle.std.specs.Prelude.{slice_index}
+use Rattle.flow_solver.specs.Search.{IsSearch, SameTree}
+use Rattle.flow_solver.proofs.Relaxing.{AreRelaxedTo}
 use Rattle.flow_solver.proofs.search.relax_all.Given as goal
 
--- the steps by the arcs from the bound on are relaxed
-abbrev pub invariant-loop-bound : goal.invariant-loop-bound
-invariant-loop-bound l = record {
+-- the links so far are relaxed
+abbrev pub invariant-loop-place : goal.invariant-loop-place
+invariant-loop-place l = record {
   same : SameTree l.initial.search l.search;
   search : IsSearch l.net l.state l.search;
-  below : l.bound ≤ length l.net.arcs;
-  at : 0 < l.bound → ((arc_at l.net (l.bound - 1)).tail ≡ l.search.node) ⊎ ((arc_at l.net (l.bound - 1)).head ≡ l.search.node);
-  relaxed : IsRelaxedFrom l.net l.state l.search.distances.items l.search.node l.bound;
+  relaxed : AreRelaxedTo l.net l.state l.search.distances.items l.search.node l.links.all.items (slice_index l.links.starts.items l.search.node) l.place;
 }
-
-abbrev pub decreases-loop-bound : goal.decreases-loop-bound
-decreases-loop-bound l = l.bound

@@ -9,7 +9,7 @@ abbrev pub invariant-loop-node : goal.invariant-loop-node
 invariant-loop-node l = record {
   source : l.search.source ≡ l.initial.search.source;
   search : IsSearch l.net l.state l.search;
-  relaxed : IsRelaxedFrom l.net l.state l.search.distances.items l.search.node 0;
+  relaxed : IsRelaxedFrom l.net l.state l.search.distances.items l.search.node;
   calm : pos 0 ≤ℤ excess_at l.state.excess.items l.search.node;
 }
 

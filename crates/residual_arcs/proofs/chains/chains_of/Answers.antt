@@ -1,8 +1,8 @@
 use Rattle.std.proofs.Common.{◌≡◌, arith, length, ◌<◌}
 use Rattle.std.specs.Prelude.{slice_index}
 use Rattle.std.proofs.lemmas.List.{get_or_read}
-use Rattle.flow_solver.proofs.Chains.{AreLinksTo-more}
-use Rattle.flow_solver.proofs.links.links_of.Goals as goal
+use Rattle.residual_arcs.proofs.Chaining.{AreChainsTo-more}
+use Rattle.residual_arcs.proofs.chains.chains_of.Goals as goal
 
 pub loop-place-preserved : goal.loop-place-preserved
 loop-place-preserved c =
@@ -16,4 +16,4 @@ loop-place-preserved c =
     let head_in : c.arc_of-arc.result.head < length last = omega (arith, c.arc_of-arc.ensures.within.head, long) in
     let tail : c.index.result.now ≡ slice_index last c.arc_of-arc.result.tail = get_or_read _ _ _ tail_in c.index.ensures 0 in
     let head : c.index-in-loop-place.result.now ≡ slice_index last c.arc_of-arc.result.head = get_or_read _ _ _ head_in c.index-in-loop-place.ensures 0 in
-    rw (c.in_ok-push.ensures.items, c.in_ok-push-2.ensures.items, tail, head, c.arc_of-arc.ensures.value) (AreLinksTo-more net i last c.loop-place.before_tail.items c.loop-place.before_head.items good i_in c.loop-place.invariant)
+    rw (c.in_ok-push.ensures.items, c.in_ok-push-2.ensures.items, tail, head, c.arc_of-arc.ensures.value) (AreChainsTo-more net i last c.loop-place.before_tail.items c.loop-place.before_head.items good i_in c.loop-place.invariant)

@@ -1,6 +1,6 @@
 // Steps over arcs.
 ghost use Rattle.std.specs.Prelude.{◌≡◌, ◌<◌, ◌≤◌, length, ℤ, pos, negsuc, ◌≤ℤ◌, ℕ, ◌^◌};
-ghost use Rattle.flow_solver.specs.Step.{start_of, end_of, step_cost, left_on, carried};
+ghost use Rattle.residual_arcs.specs.Step.{start_of, end_of, step_cost, left_on, carried};
 ghost use Rattle.bounded_network.specs.Network.{arc_at, IsNetwork, IsArc};
 
 use bounded_network::{Arc, Network};

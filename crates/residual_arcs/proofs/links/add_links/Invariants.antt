@@ -1,13 +1,12 @@
-use Rattle.std.proofs.Common.{◌≡◌, ◌-◌, ◌<◌, ◌≤◌, ◌⊎◌, All, length}
+use Rattle.std.proofs.Common.{◌≡◌, ◌-◌, ◌<◌, ◌≤◌, ◌⊎◌, length}
 use Rattle.bounded_network.specs.Network.{arc_at}
-use Rattle.flow_solver.specs.Residual.{IsResidualArc}
-use Rattle.flow_solver.proofs.residual.add_residual_arcs.Given as goal
+use Rattle.residual_arcs.specs.Adding.{AddsFrom}
+use Rattle.residual_arcs.proofs.links.add_links.Given as goal
 
--- the bound is one of the node's
+-- the steps over the arcs from the bound on are added
 abbrev pub invariant-loop-bound : goal.invariant-loop-bound
 invariant-loop-bound l = record {
-  residual_arcs : All (λ residual_arc. IsResidualArc l.net residual_arc) l.all.items;
-  more : length l.initial.all.items ≤ length l.all.items;
+  adds : AddsFrom l.net l.node l.bound l.initial.all.items l.all.items;
   below : l.bound ≤ length l.net.arcs;
   at : 0 < l.bound → ((arc_at l.net (l.bound - 1)).tail ≡ l.node) ⊎ ((arc_at l.net (l.bound - 1)).head ≡ l.node);
 }

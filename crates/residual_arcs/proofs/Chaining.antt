@@ -4,10 +4,10 @@ use Rattle.std.specs.Prelude.{slice_index, slice_set}
 use Rattle.std.proofs.lemmas.Bool.{cases_eq}
 use Rattle.std.proofs.lemmas.List.{length-set, get_or_push, get_or_append_left, length_push}
 use Rattle.bounded_network.specs.Network.{NetworkValue, IsNetwork, arc_at}
-use Rattle.flow_solver.specs.Links.{IsBound}
+use Rattle.residual_arcs.specs.Chains.{IsBound}
 
 -- the bounds over the arcs below a place
-pub record AreLinksTo (net : NetworkValue) (i : ℕ) (last tails heads : List ℕ) : Type 0 where
+pub record AreChainsTo (net : NetworkValue) (i : ℕ) (last tails heads : List ℕ) : Type 0 where
   pub last_long : length last ≡ net.nodes
   pub tails_long : length tails ≡ i
   pub heads_long : length heads ≡ i
@@ -33,9 +33,9 @@ IsBound-here net i v at = record {
   at = λ _. let e : (i + 1) - 1 ≡ i = omega arith in rw e at;
 }
 
-pub AreLinksTo-more : (net : NetworkValue) (i : ℕ) (last tails heads : List ℕ) → IsNetwork net → i < length net.arcs → AreLinksTo net i last tails heads
-    → AreLinksTo net (i + 1) (slice_set (slice_set last (arc_at net i).tail (i + 1)) (arc_at net i).head (i + 1)) (tails ++ slice_index last (arc_at net i).tail ∷ []) (heads ++ slice_index last (arc_at net i).head ∷ [])
-AreLinksTo-more net i last tails heads good i_in old =
+pub AreChainsTo-more : (net : NetworkValue) (i : ℕ) (last tails heads : List ℕ) → IsNetwork net → i < length net.arcs → AreChainsTo net i last tails heads
+    → AreChainsTo net (i + 1) (slice_set (slice_set last (arc_at net i).tail (i + 1)) (arc_at net i).head (i + 1)) (tails ++ slice_index last (arc_at net i).tail ∷ []) (heads ++ slice_index last (arc_at net i).head ∷ [])
+AreChainsTo-more net i last tails heads good i_in old =
     let t : ℕ = (arc_at net i).tail in
     let h : ℕ = (arc_at net i).head in
     let t_in : t < net.nodes = (good.each i i_in).tail in

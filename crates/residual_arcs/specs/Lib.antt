@@ -1,0 +1,5 @@
+pub mod Adding
+pub mod Chains
+pub mod Closed
+pub mod Links
+pub mod Step
