@@ -60,7 +60,8 @@ fn after_values(
 fn after_bids(alloc: Global, venue: Venue, how: How, body: &[u8]) -> Result<Venue, ImportFault>
     ensures { Makes result (venue_after venue table.Bids how body.now) }
 {
-    match bids_after(alloc, how, &venue.settings, venue.scores, body) {
+    let scores = venue.scores;
+    match bids_after(alloc, how, &venue.settings, scores, body) {
         Ok(scores) => Ok(Venue { scores, ..venue }),
         Err(fault) => Err(fault),
     }

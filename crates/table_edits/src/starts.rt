@@ -21,11 +21,7 @@ pub(crate) fn start_of_rows<R: Row>(alloc: Global, how: How, rows: Table<R>) -> 
 }
 
 /// The table of pairs itself, or an empty one.
-pub(crate) fn start_of_pairs<V: Drop>(
-    alloc: Global,
-    how: How,
-    pairs: PairTable<V>,
-) -> PairTable<V>
+pub(crate) fn start_of_pairs<V: Drop>(alloc: Global, how: How, pairs: PairTable<V>) -> PairTable<V>
     ensures { result ≡ start_of how pairs }
 {
     match how {

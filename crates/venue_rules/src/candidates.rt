@@ -72,6 +72,18 @@ struct ReviewerAt<'a> {
     row: &'a ReviewerRow,
 }
 
+fn locked_pair(paper: u32, reviewer: u32, score: i64) -> RulePair
+    ensures { result ≡ record { paper = paper; reviewer = reviewer; score = score; floor = MOST_TICKETS; cap = MOST_TICKETS } }
+{
+    RulePair {
+        paper,
+        reviewer,
+        score,
+        floor: MOST_TICKETS,
+        cap: MOST_TICKETS,
+    }
+}
+
 fn pair_of(
     tables: &Tables,
     scores: &PaperScores,
@@ -87,13 +99,7 @@ fn pair_of(
 {
     let score = scores.score(reviewer.row.id.text());
     if mark == 1 {
-        return RulePair {
-            paper: paper.place,
-            reviewer: reviewer.place,
-            score,
-            floor: MOST_TICKETS,
-            cap: MOST_TICKETS,
-        };
+        return locked_pair(paper.place, reviewer.place, score);
     }
     RulePair {
         paper: paper.place,
