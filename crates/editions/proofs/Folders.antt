@@ -5,12 +5,13 @@ use Rattle.std.proofs.lemmas.List.{drop_all}
 use Rattle.edge_io.specs.FileValues.{FileValue}
 use Rattle.bid_import.specs.Results.{◌>>=◌}
 use Rattle.edge_io.specs.Files.{file_named, told_files}
-use Rattle.editions.specs.declared.edit.TableName.{TableName}
-use Rattle.editions.specs.declared.edit.TableName.TheVariants.{Settings}
+use Rattle.table_edits.specs.declared.edit.TableName.{TableName}
+use Rattle.table_edits.specs.declared.edit.TableName.TheVariants.{Settings}
 use Rattle.editions.specs.declared.fault.LoadFault.{LoadFault}
 use Rattle.editions.specs.declared.fault.LoadFault.TheVariants.{Memory, Folder, Bad, Limit}
-use Rattle.editions.specs.Loads.{Loaded, Loads, ReadsFiles, after_file, after_files, file_of, tables_of, venue_in}
-use Rattle.editions.specs.Venues.{VenueValue, empty_venue}
+use Rattle.table_edits.specs.Files.{file_of, tables_of}
+use Rattle.editions.specs.Loads.{Loaded, Loads, ReadsFiles, after_file, after_files, venue_in}
+use Rattle.venue_rules.specs.Venues.{VenueValue, empty_venue}
 
 -- what is known of the files, and what follows from it
 pub reads_so : (old new : Option (List FileValue)) (A B : List FileValue → Type 0) → ReadsFiles old new A → ((files : List FileValue) → A files → B files) → ReadsFiles old new B
@@ -42,7 +43,7 @@ settings_fail fault empty files e h =
     then_load_fails fault _ _ (then_load_fails fault _ _ first)
 
 -- the other tables after the settings
-pub other_tables : (result : Result VenueValue LoadFault) (empty venue : VenueValue) (tables : List TableName) (files : List FileValue) → empty ≡ empty_venue → tables ≡ tables_of venue → after_file empty Settings (file_named files (file_of Settings)) ≡ Ok venue → Loads result (after_files files tables venue) → Loads result (venue_in files)
+pub other_tables : (result : Result VenueValue LoadFault) (empty venue : VenueValue) (tables : List TableName) (files : List FileValue) → empty ≡ empty_venue → tables ≡ tables_of venue.settings.spec.sources → after_file empty Settings (file_named files (file_of Settings)) ≡ Ok venue → Loads result (after_files files tables venue) → Loads result (venue_in files)
 unfolding venue_in
 other_tables result empty venue tables files e t h rest =
     let first : after_file empty_venue Settings (file_named files (file_of Settings)) ≡ Ok venue = rw e at h in

@@ -18,10 +18,10 @@ use Rattle.bid_import.specs.Fields.{id_of, count_of, demand_from, demand_of, nam
 use Rattle.bid_import.specs.Files.{rows_of_file, first_row_of}
 use Rattle.bid_import.specs.Kinds.{paper_row, paper_columns, cap_row, cap_columns}
 use Rattle.bid_import.specs.Results.{◌>>=◌}
-use Rattle.editions.specs.Edits.{papers_after, caps_after}
-use Rattle.editions.specs.Puts.{put_all, paper_has_room, put_paper, cap_has_room, put_cap_row}
-use Rattle.editions.specs.Venues.{paper_key, IsDemand, IsCap}
-use Rattle.editions.proofs.Rows.{rows_are}
+use Rattle.table_edits.specs.Bodies.{papers_after, caps_after}
+use Rattle.table_edits.specs.Puts.{put_all, paper_has_room, put_paper, cap_has_room, put_cap_row}
+use Rattle.venue_rules.specs.Venues.{paper_key, IsDemand, IsCap}
+use Rattle.table_edits.proofs.Rows.{rows_are}
 
 -- a put keeps what each of the rows has
 

@@ -1,13 +1,3 @@
-pub mod Rows
 pub mod Keeping
 pub mod Makes
 pub mod Folders
-pub mod AnswerLaws
-pub mod CapLaws
-pub mod ListedLaws
-pub mod FoundLaws
-pub mod LockLaws
-pub mod WalkLaws
-pub mod PairLaws
-pub mod RowLaws
-pub mod RuleLaws

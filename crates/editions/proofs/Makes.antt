@@ -7,9 +7,9 @@ use Rattle.score_spec.specs.PairTables.{PairsValue}
 use Rattle.bid_import.specs.declared.fault.ImportFault.{ImportFault}
 use Rattle.bid_import.specs.declared.fault.ImportFault.TheVariants.{Memory, Bad}
 use Rattle.bid_import.specs.Results.{◌>>=◌}
-use Rattle.editions.specs.declared.edit.How.{How}
-use Rattle.editions.specs.declared.edit.How.TheVariants.{Merge, Replace}
-use Rattle.editions.specs.Edits.{Made, Makes, start_of}
+use Rattle.table_edits.specs.declared.edit.How.{How}
+use Rattle.table_edits.specs.declared.edit.How.TheVariants.{Merge, Replace}
+use Rattle.table_edits.specs.Bodies.{Made, Makes, start_of}
 use Rattle.editions.proofs.Keeping.{HasDemands, HasCaps}
 
 -- a fault of the part is one of the whole

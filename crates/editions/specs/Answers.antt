@@ -3,11 +3,11 @@ use Rattle.std.specs.Prelude.{◌≡◌, Result, Ok, Err, ⊤}
 use Rattle.match_rules.specs.Rules.{RulesValue}
 use Rattle.editions.specs.declared.fault.EditFault.{EditFault}
 use Rattle.editions.specs.declared.fault.EditFault.TheVariants.{Memory, Import, Limit}
-use Rattle.editions.specs.declared.fault.LimitFault.{LimitFault}
+use Rattle.venue_rules.specs.declared.fault.LimitFault.{LimitFault}
 use Rattle.editions.specs.declared.venue.Edited.{Edited}
-use Rattle.editions.specs.Edits.{Made}
-use Rattle.editions.specs.VenueRules.{rules_of}
-use Rattle.editions.specs.Venues.{VenueValue}
+use Rattle.table_edits.specs.Bodies.{Made}
+use Rattle.venue_rules.specs.VenueRules.{rules_of}
+use Rattle.venue_rules.specs.Venues.{VenueValue}
 
 -- the rules of a venue, or the limit that it passes; or memory was wanting
 abbrev pub IsRulesAnswer : Result RulesValue EditFault → VenueValue → Type 0

@@ -1,10 +1,3 @@
-pub mod Venues
-pub mod Candidates
-pub mod Listed
-pub mod Found
-pub mod Parts
-pub mod VenueRules
-pub mod Puts
 pub mod Edits
 pub mod Answers
 pub mod Loads

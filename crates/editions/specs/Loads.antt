@@ -1,7 +1,5 @@
 -- The venue of a folder: its files as edits, in their order.
-use Rattle.std.specs.Prelude.{◌≡◌, ℕ, nat_lt, Bool, true, false, if◌then◌else◌, List, [], ◌∷◌, ◌++◌, length, map, filter, codes, Option, Some, None, Result, Ok, Err, ⊤, ◌≤◌, IsSome, IsErrOf}
-use Rattle.score_spec.specs.Scores.{is_values}
-use Rattle.score_spec.specs.Sources.{SourceValue}
+use Rattle.std.specs.Prelude.{◌≡◌, ℕ, nat_lt, if◌then◌else◌, List, [], ◌∷◌, length, Option, Some, None, Result, Ok, Err, ⊤, ◌≤◌, IsSome, IsErrOf}
 use Rattle.bid_import.specs.Results.{◌>>=◌}
 use Rattle.bid_import.specs.declared.fault.Code.{Code}
 use Rattle.bid_import.specs.declared.fault.Code.TheVariants.{Missing, TooLong}
@@ -9,35 +7,17 @@ use Rattle.edge_io.specs.FileValues.{FileValue}
 use Rattle.edge_io.specs.Counts.{Rose}
 use Rattle.edge_io.specs.Files.{file_named, told_files}
 use Rattle.edge_io.specs.declared.folder.TheConstants.{MOST_FILE_BYTES}
-use Rattle.editions.specs.declared.edit.How.TheVariants.{Replace}
-use Rattle.editions.specs.declared.edit.TableName.{TableName}
-use Rattle.editions.specs.declared.edit.TableName.TheVariants.{Settings, Papers, Reviewers, Values, Bids, Marks, Caps}
+use Rattle.table_edits.specs.Bodies.{Made}
+use Rattle.table_edits.specs.Files.{file_of, has_to_be_there, tables_of}
+use Rattle.table_edits.specs.declared.edit.How.TheVariants.{Replace}
+use Rattle.table_edits.specs.declared.edit.TableName.{TableName}
+use Rattle.table_edits.specs.declared.edit.TableName.TheVariants.{Settings}
+use Rattle.venue_rules.specs.Venues.{VenueValue, empty_venue}
 use Rattle.editions.specs.declared.fault.LoadFault.{LoadFault}
 use Rattle.editions.specs.declared.fault.LoadFault.TheVariants.{Memory, Folder, Bad, Limit}
 use Rattle.editions.specs.declared.venue.Edited.{Edited}
 use Rattle.editions.specs.Answers.{IsEdited, IsLimited}
-use Rattle.editions.specs.Edits.{Made, venue_after}
-use Rattle.editions.specs.Venues.{VenueValue, empty_venue}
-
--- the file of a table
-abbrev pub file_of : TableName → List ℕ
-file_of Settings = codes "settings.toml"
-file_of Papers = codes "papers.csv"
-file_of Reviewers = codes "reviewers.csv"
-file_of (Values source) = codes "values-" ++ (source ++ codes ".csv")
-file_of Bids = codes "bids.csv"
-file_of Marks = codes "marks.csv"
-file_of Caps = codes "caps.csv"
-
--- papers and reviewers have to be there; any other file that isn't is empty
-abbrev pub has_to_be_there : TableName → Bool
-has_to_be_there Settings = false
-has_to_be_there Papers = true
-has_to_be_there Reviewers = true
-has_to_be_there (Values source) = false
-has_to_be_there Bids = false
-has_to_be_there Marks = false
-has_to_be_there Caps = false
+use Rattle.editions.specs.Edits.{venue_after}
 
 -- a venue, or the file at fault, with the row and the code
 abbrev pub Loaded : Type 0
@@ -61,16 +41,9 @@ abbrev pub after_files : List FileValue → List TableName → VenueValue → Lo
 after_files files [] venue = Ok venue
 after_files files (table ∷ tables) venue = after_file venue table (file_named files (file_of table)) >>= after_files files tables
 
-abbrev pub values_table : SourceValue → TableName
-values_table source = Values source.name
-
--- the tables beside the settings, in the order in which they are read
-abbrev pub tables_of : VenueValue → List TableName
-tables_of venue = Papers ∷ Reviewers ∷ (map values_table (filter (λ source. is_values source.kind) venue.settings.spec.sources) ++ (Bids ∷ Marks ∷ Caps ∷ []))
-
 -- the venue of a folder with these files
 unfoldable pub venue_in : List FileValue → Loaded
-venue_in files = after_files files (Settings ∷ []) empty_venue >>= (λ venue. after_files files (tables_of venue) venue)
+venue_in files = after_files files (Settings ∷ []) empty_venue >>= (λ venue. after_files files (tables_of venue.settings.spec.sources) venue)
 
 -- the answer has the venue, or the file at fault, with the row and the code; or the folder failed or memory was wanting
 abbrev pub Loads : Result VenueValue LoadFault → Loaded → Type 0

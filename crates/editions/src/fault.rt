@@ -1,30 +1,8 @@
 // What is refused, and why.
 
 use bid_import::Code;
-use match_rules::{PaperId, ReviewerId};
 use score_spec::Text;
-
-/// A limit that the rules of a venue pass.
-#[derive(Drop)]
-pub enum LimitFault {
-    /// The demands of the papers sum to more than 4,500.
-    TooMuchDemand {
-        /// Their sum.
-        sum: u64,
-    },
-    /// A pair with the mark 1 whose reviewer has the institution of an author.
-    LockForbidden {
-        /// The paper of the first such pair, by the bytes of its id.
-        paper: PaperId,
-        /// Its reviewer.
-        reviewer: ReviewerId,
-    },
-    /// There are more than 250,000 candidate pairs.
-    TooManyPairs {
-        /// Their number.
-        count: u64,
-    },
-}
+use venue_rules::LimitFault;
 
 /// Why an edit makes no venue.
 #[derive(Drop)]

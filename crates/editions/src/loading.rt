@@ -1,51 +1,19 @@
 // The venue of a folder: its files as edits, one after the other.
 
-ghost use Rattle.std.specs.Prelude.{◌≡◌, ◌++◌, ℕ, List, Option, Ok, filter, map, codes, IfOk, IsErrOf, OnOk};
+ghost use Rattle.std.specs.Prelude.{◌≡◌, ℕ, List, Option, Ok, IsErrOf};
 ghost use Rattle.edge_io.specs.Files.{IsRead, file_named};
-ghost use Rattle.score_spec.specs.Scores.{is_values};
-ghost use Rattle.editions.specs.Loads.{IsLoadAnswer, LoadFails, Loads, ReadsFiles, after_file, after_files, file_of, has_to_be_there, in_file, tables_of, values_table, venue_in};
+ghost use Rattle.table_edits.specs.Files.{file_of};
+ghost use Rattle.editions.specs.Loads.{IsLoadAnswer, LoadFails, Loads, ReadsFiles, after_file, after_files, in_file, venue_in};
 ghost use Rattle.editions.specs.Edits.{venue_after};
 
-use crate::edit::{How, TableName};
 use crate::fault::{EditFault, LoadFault};
 use crate::next::after;
 use crate::venue::{Edited, Venue};
 use bid_import::{Code, ImportFault};
 use edge_io::{FileRead, Folder, FolderFault};
-use score_spec::{Kind, SourceSpec, Text};
-use std::alloc::{AllocError, Global};
-
-fn values_file(alloc: Global, source: &str) -> Result<Text, AllocError>
-    ensures { IfOk result (λ name. name ≡ codes "values-" ++ (source.now ++ codes ".csv")) }
-{
-    let name = format!(in alloc; "values-{source}.csv")?;
-    Ok(Text::from_string(name))
-}
-
-// The name of the file of a table.
-fn file_name(alloc: Global, table: &TableName) -> Result<Text, AllocError>
-    ensures { IfOk result (λ name. name ≡ file_of table.now) }
-{
-    match table {
-        TableName::Settings => Text::read(alloc, "settings.toml"),
-        TableName::Papers => Text::read(alloc, "papers.csv"),
-        TableName::Reviewers => Text::read(alloc, "reviewers.csv"),
-        TableName::Values { source } => values_file(alloc, source.as_str()),
-        TableName::Bids => Text::read(alloc, "bids.csv"),
-        TableName::Marks => Text::read(alloc, "marks.csv"),
-        TableName::Caps => Text::read(alloc, "caps.csv"),
-    }
-}
-
-fn has_to_be_there(table: &TableName) -> bool
-    ensures { result ≡ has_to_be_there table.now }
-{
-    match table {
-        TableName::Papers => true,
-        TableName::Reviewers => true,
-        _ => false,
-    }
-}
+use score_spec::Text;
+use std::alloc::Global;
+use table_edits::{How, TableName, file_name, has_to_be_there, tables_of};
 
 fn after_absent(venue: Venue, table: &TableName, file: Text) -> Result<Venue, LoadFault>
     requires { file ≡ file_of table.now }
@@ -144,37 +112,6 @@ fn read_tables<F: Folder>(
     Ok(venue)
 }
 
-// Adds the tables of the sources of values.
-fn push_values(
-    alloc: Global,
-    tables: &mut Vec<TableName>,
-    sources: &[SourceSpec],
-) -> Result<(), AllocError>
-    ensures { OnOk result (tables.new.items ≡ tables.old.items ++ map values_table (filter (λ source. is_values source.kind) sources.now)) }
-{
-    for source in sources {
-        if source.kind() == Kind::Values {
-            let source = Text::read(alloc, source.name())?;
-            tables.push(TableName::Values { source })?;
-        }
-    }
-    Ok(())
-}
-
-// The tables beside the settings, in the order in which their files are read.
-fn tables_of(alloc: Global, venue: &Venue) -> Result<Vec<TableName>, AllocError>
-    ensures { IfOk result (λ tables. tables.items ≡ tables_of venue.now) }
-{
-    let mut tables = Vec::new(alloc);
-    tables.push(TableName::Papers)?;
-    tables.push(TableName::Reviewers)?;
-    push_values(alloc, &mut tables, venue.settings.spec().sources.as_slice())?;
-    tables.push(TableName::Bids)?;
-    tables.push(TableName::Marks)?;
-    tables.push(TableName::Caps)?;
-    Ok(tables)
-}
-
 // The venue of a folder.
 fn venue_of<F: Folder>(alloc: Global, folder: &mut F) -> Result<Venue, LoadFault>
     ensures reads { ReadsFiles (F.files folder.old) (F.files folder.new) (λ files. Loads result (venue_in files)) }
@@ -188,7 +125,7 @@ fn venue_of<F: Folder>(alloc: Global, folder: &mut F) -> Result<Venue, LoadFault
         Ok(venue) => venue,
         Err(fault) => return Err(fault),
     };
-    match tables_of(alloc, &venue) {
+    match tables_of(alloc, venue.settings.spec().sources.as_slice()) {
         Ok(tables) => read_tables(alloc, folder, venue, tables.as_slice()),
         Err(_) => Err(LoadFault::Memory),
     }

@@ -1,66 +1,27 @@
 // The venue after an edit: one of its tables is put anew, and all else stays.
 
 ghost use Rattle.std.specs.Prelude.{◌≡◌};
-ghost use Rattle.editions.specs.Answers.{IsEditAnswer};
-ghost use Rattle.editions.specs.Edits.{Makes, start_of, values_start, bids_start, settings_after, venue_after};
 ghost use Rattle.bid_import.specs.Settings.{settings_of_file};
-ghost use Rattle.editions.specs.Venues.{with_settings};
-ghost use Rattle.editions.specs.declared.edit.TableName.TheVariants as table;
+ghost use Rattle.table_edits.specs.Bodies.{Makes};
+ghost use Rattle.table_edits.specs.declared.edit.TableName.TheVariants as table;
+ghost use Rattle.venue_rules.specs.Venues.{with_settings};
+ghost use Rattle.editions.specs.Answers.{IsEditAnswer};
+ghost use Rattle.editions.specs.Edits.{settings_after, venue_after};
 
-use crate::edit::{Edit, How, TableName};
 use crate::fault::EditFault;
-use crate::puts::{
-    bids_after, caps_after, marks_after, papers_after, reviewers_after, values_after,
-};
 use crate::venue::{Edited, Venue};
 use bid_import::{Code, ImportFault, Settings, read_settings};
-use roster::{Row, Table};
-use score_spec::{PairTable, Scores, Text};
+use score_spec::Text;
 use std::alloc::Global;
-
-fn start_of_rows<R: Row>(alloc: Global, how: How, rows: Table<R>) -> Table<R>
-    ensures { result ≡ start_of how rows }
-{
-    match how {
-        How::Merge => rows,
-        How::Replace => Table::new(alloc),
-    }
-}
-
-fn start_of_pairs<V: Drop>(alloc: Global, how: How, pairs: PairTable<V>) -> PairTable<V>
-    ensures { result ≡ start_of how pairs }
-{
-    match how {
-        How::Merge => pairs,
-        How::Replace => PairTable::new(alloc),
-    }
-}
-
-fn start_of_values(how: How, source: &str, mut scores: Scores) -> Scores
-    ensures { result ≡ values_start how source.now scores }
-{
-    if how == How::Merge {
-        return scores;
-    }
-    scores.clear_values(source);
-    scores
-}
-
-fn start_of_bids(how: How, mut scores: Scores) -> Scores
-    ensures { result ≡ bids_start how scores }
-{
-    if how == How::Merge {
-        return scores;
-    }
-    scores.clear_bids();
-    scores
-}
+use table_edits::{
+    Edit, How, TableName, bids_after, caps_after, marks_after, papers_after, reviewers_after,
+    scores_under, values_after,
+};
 
 fn after_papers(alloc: Global, venue: Venue, how: How, body: &[u8]) -> Result<Venue, ImportFault>
     ensures { Makes result (venue_after venue table.Papers how body.now) }
 {
-    let start = start_of_rows(alloc, how, venue.papers);
-    match papers_after(alloc, start, body) {
+    match papers_after(alloc, how, venue.papers, body) {
         Ok(papers) => Ok(Venue { papers, ..venue }),
         Err(fault) => Err(fault),
     }
@@ -69,8 +30,7 @@ fn after_papers(alloc: Global, venue: Venue, how: How, body: &[u8]) -> Result<Ve
 fn after_reviewers(alloc: Global, venue: Venue, how: How, body: &[u8]) -> Result<Venue, ImportFault>
     ensures { Makes result (venue_after venue table.Reviewers how body.now) }
 {
-    let start = start_of_rows(alloc, how, venue.reviewers);
-    match reviewers_after(alloc, start, body) {
+    match reviewers_after(alloc, how, venue.reviewers, body) {
         Ok(reviewers) => Ok(Venue { reviewers, ..venue }),
         Err(fault) => Err(fault),
     }
@@ -91,8 +51,7 @@ fn after_values(
             code: Code::UnknownSource,
         });
     }
-    let start = start_of_values(how, source.as_str(), venue.scores);
-    match values_after(alloc, source.as_str(), start, body) {
+    match values_after(alloc, how, source.as_str(), venue.scores, body) {
         Ok(scores) => Ok(Venue { scores, ..venue }),
         Err(fault) => Err(fault),
     }
@@ -101,8 +60,8 @@ fn after_values(
 fn after_bids(alloc: Global, venue: Venue, how: How, body: &[u8]) -> Result<Venue, ImportFault>
     ensures { Makes result (venue_after venue table.Bids how body.now) }
 {
-    let start = start_of_bids(how, venue.scores);
-    match bids_after(alloc, &venue.settings, start, body) {
+    let scores = venue.scores;
+    match bids_after(alloc, how, &venue.settings, scores, body) {
         Ok(scores) => Ok(Venue { scores, ..venue }),
         Err(fault) => Err(fault),
     }
@@ -111,8 +70,7 @@ fn after_bids(alloc: Global, venue: Venue, how: How, body: &[u8]) -> Result<Venu
 fn after_marks(alloc: Global, venue: Venue, how: How, body: &[u8]) -> Result<Venue, ImportFault>
     ensures { Makes result (venue_after venue table.Marks how body.now) }
 {
-    let start = start_of_pairs(alloc, how, venue.marks);
-    match marks_after(alloc, start, body) {
+    match marks_after(alloc, how, venue.marks, body) {
         Ok(marks) => Ok(Venue { marks, ..venue }),
         Err(fault) => Err(fault),
     }
@@ -121,8 +79,7 @@ fn after_marks(alloc: Global, venue: Venue, how: How, body: &[u8]) -> Result<Ven
 fn after_caps(alloc: Global, venue: Venue, how: How, body: &[u8]) -> Result<Venue, ImportFault>
     ensures { Makes result (venue_after venue table.Caps how body.now) }
 {
-    let start = start_of_pairs(alloc, how, venue.caps);
-    match caps_after(alloc, start, body) {
+    match caps_after(alloc, how, venue.caps, body) {
         Ok(caps) => Ok(Venue { caps, ..venue }),
         Err(fault) => Err(fault),
     }
@@ -131,8 +88,7 @@ fn after_caps(alloc: Global, venue: Venue, how: How, body: &[u8]) -> Result<Venu
 fn with_settings(venue: Venue, settings: Settings) -> Venue
     ensures { result ≡ with_settings venue settings }
 {
-    let mut scores = venue.scores;
-    scores.keep_sources(settings.spec());
+    let scores = scores_under(&settings, venue.scores);
     Venue {
         settings,
         scores,

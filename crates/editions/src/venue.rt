@@ -2,16 +2,16 @@
 
 ghost use Rattle.std.specs.Prelude.{◌≡◌, IfOk};
 ghost use Rattle.editions.specs.Answers.{IsRulesAnswer};
-ghost use Rattle.editions.specs.Venues.{empty_venue};
+ghost use Rattle.venue_rules.specs.Venues.{empty_venue};
 
 use crate::fault::EditFault;
-use crate::rules::rules_from;
 use bid_import::Settings;
 use match_rules::Rules;
 use roster::{Papers, Reviewers};
 use score_spec::{PairTable, Scores, TableValue, Value};
 use std::alloc::{AllocError, Global};
 use std::marker::Model;
+use venue_rules::{Tables, VenueFault, rules_of};
 
 /// All that was handed in: settings, papers, reviewers, values and bids, marks and caps.
 #[derive(Drop)]
@@ -25,7 +25,7 @@ pub struct Venue {
 }
 
 impl Model for Venue {
-    ghost use Rattle.editions.specs.Venues.{VenueValue, KeepsLimits};
+    ghost use Rattle.venue_rules.specs.Venues.{VenueValue, KeepsLimits};
 
     ghost Value = { VenueValue };
 
@@ -116,15 +116,19 @@ impl Venue {
     pub fn rules(&self, alloc: Global) -> Result<Rules, EditFault>
         ensures { IsRulesAnswer result self.now }
     {
-        rules_from(
-            alloc,
-            &self.settings,
-            &self.papers,
-            &self.reviewers,
-            &self.scores,
-            &self.marks,
-            &self.caps,
-        )
+        let tables = Tables {
+            settings: &self.settings,
+            papers: &self.papers,
+            reviewers: &self.reviewers,
+            scores: &self.scores,
+            marks: &self.marks,
+            caps: &self.caps,
+        };
+        match rules_of(alloc, &tables) {
+            Ok(rules) => Ok(rules),
+            Err(VenueFault::Memory) => Err(EditFault::Memory),
+            Err(VenueFault::Limit(fault)) => Err(EditFault::Limit(fault)),
+        }
     }
 }
 

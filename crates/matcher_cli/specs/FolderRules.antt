@@ -2,11 +2,11 @@
 use Rattle.std.specs.Prelude.{◌≡◌, ℕ, List, Option, Result, Ok, Err}
 use Rattle.edge_io.specs.FileValues.{FileValue}
 use Rattle.match_rules.specs.Rules.{RulesValue}
-use Rattle.editions.specs.declared.fault.LimitFault.{LimitFault}
+use Rattle.venue_rules.specs.declared.fault.LimitFault.{LimitFault}
 use Rattle.editions.specs.declared.fault.LoadFault.{LoadFault}
 use Rattle.editions.specs.declared.fault.LoadFault.TheVariants as load
 use Rattle.editions.specs.Loads.{Loaded, venue_in}
-use Rattle.editions.specs.VenueRules.{rules_of}
+use Rattle.venue_rules.specs.VenueRules.{rules_of}
 use Rattle.publication.specs.RulesText.{rules_text}
 use Rattle.matcher_cli.specs.declared.status.Status.{Status}
 use Rattle.matcher_cli.specs.declared.status.Status.TheVariants.{Done, Broken, Usage, ReadFault, WriteFault, Refused, Memory}

@@ -4,8 +4,8 @@ use Rattle.bid_import.specs.declared.fault.Code.{Code}
 use Rattle.bid_import.specs.declared.fault.Code.TheVariants as code
 use Rattle.bid_import.specs.declared.fault.Key.{Key}
 use Rattle.bid_import.specs.declared.fault.Key.TheVariants as key
-use Rattle.editions.specs.declared.fault.LimitFault.{LimitFault}
-use Rattle.editions.specs.declared.fault.LimitFault.TheVariants as limit
+use Rattle.venue_rules.specs.declared.fault.LimitFault.{LimitFault}
+use Rattle.venue_rules.specs.declared.fault.LimitFault.TheVariants as limit
 use Rattle.editions.specs.declared.fault.LoadFault.{LoadFault}
 use Rattle.editions.specs.declared.fault.LoadFault.TheVariants as load
 use Rattle.text_lines.specs.Labels.{labelled}

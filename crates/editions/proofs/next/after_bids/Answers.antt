@@ -5,8 +5,8 @@ use Rattle.editions.proofs.next.after_bids.Goals as goal
 
 pub returns-in-Ok : goal.returns-in-Ok
 unfolding venue_after
-returns-in-Ok c = let made = rw c.start_of_bids-start.ensures at c.in-Ok.ensures in rw (← c.venue.view_is, made) refl
+returns-in-Ok c = rw (← c.venue.view_is, c.in-Ok.ensures) refl
 
 pub returns-in-Err : goal.returns-in-Err
 unfolding venue_after
-returns-in-Err c = let fails = rw c.start_of_bids-start.ensures at c.in-Err.ensures in rw (← c.venue.view_is) (then_fails c.in-Err.fault _ _ fails)
+returns-in-Err c = rw (← c.venue.view_is) (then_fails c.in-Err.fault _ _ c.in-Err.ensures)

@@ -5,14 +5,15 @@ use Rattle.editions.proofs.Makes.{then_fails, start_keeps_demands}
 use Rattle.editions.proofs.next.after_papers.Goals as goal
 
 pub invariant_of-result : goal.invariant_of-result
-invariant_of-result c =
-    let made = rw c.start_of_rows-start.ensures at c.in-Ok.ensures in
-    record { demands = papers_after_keep _ c.args.body.now c.in-Ok.papers (start_keeps_demands c.args.how c.venue.inside.papers c.venue.invariant.demands) made; caps = c.venue.invariant.caps }
+invariant_of-result c = record {
+  demands = papers_after_keep _ c.args.body.now c.in-Ok.papers (start_keeps_demands c.args.how c.venue.inside.papers c.venue.invariant.demands) c.in-Ok.ensures;
+  caps = c.venue.invariant.caps;
+}
 
 pub returns-in-Ok : goal.returns-in-Ok
 unfolding venue_after
-returns-in-Ok c = let made = rw c.start_of_rows-start.ensures at c.in-Ok.ensures in rw (← c.venue.view_is, made) refl
+returns-in-Ok c = rw (← c.venue.view_is, c.in-Ok.ensures) refl
 
 pub returns-in-Err : goal.returns-in-Err
 unfolding venue_after
-returns-in-Err c = let fails = rw c.start_of_rows-start.ensures at c.in-Err.ensures in rw (← c.venue.view_is) (then_fails c.in-Err.fault _ _ fails)
+returns-in-Err c = rw (← c.venue.view_is) (then_fails c.in-Err.fault _ _ c.in-Err.ensures)

@@ -13,12 +13,12 @@ pub returns-in-Ok : goal.returns-in-Ok
 unfolding venue_after
 returns-in-Ok c =
     let known = rw (c.spec.ensures.same, c.as_str.ensures) at (sym c.if-not-has_values.ensures) in
-    let made = rw (c.start_of_values-start.ensures, c.as_str-2.ensures, c.as_str-3.ensures) at c.in-Ok.ensures in
+    let made = rw c.as_str-2.ensures at c.in-Ok.ensures in
     rw (← c.venue.view_is, known, made) refl
 
 pub returns-in-Err : goal.returns-in-Err
 unfolding venue_after
 returns-in-Err c =
     let known = rw (c.spec.ensures.same, c.as_str.ensures) at (sym c.if-not-has_values.ensures) in
-    let fails = rw (c.start_of_values-start.ensures, c.as_str-2.ensures, c.as_str-3.ensures) at c.in-Err.ensures in
+    let fails = rw c.as_str-2.ensures at c.in-Err.ensures in
     rw (← c.venue.view_is, known) (then_fails c.in-Err.fault _ _ fails)

@@ -1,7 +1,0 @@
-use Rattle.std.proofs.Common.{arith}
-use Rattle.bid_import.specs.Kinds.{cap_row, cap_columns}
-use Rattle.editions.proofs.Rows.{rows_are_few}
-use Rattle.editions.proofs.puts.caps_after.Goals as goal
-
-pub put_body-requires : goal.put_body-requires
-put_body-requires c = let few = rows_are_few cap_row cap_columns 250000 c.args.body.now c.in_ok-rows.rows.items c.in_ok-rows.ensures in omega arith

@@ -1,9 +1,0 @@
-use Rattle.std.proofs.Common.{◌≡◌, ◌+◌, ◌*◌, ◌≤◌, drop}
-use Rattle.editions.specs.VenueRules.{demand_sum}
-use Rattle.editions.proofs.rules.demand_sum.Given as goal
-
-abbrev pub invariant-loop-paper : goal.invariant-loop-paper
-invariant-loop-paper l = record {
-  most : l.sum ≤ 100 * l.paper-index;
-  rest : l.sum + demand_sum l.tables (drop l.paper-index l.tables.papers) ≡ demand_sum l.tables l.tables.papers;
-}

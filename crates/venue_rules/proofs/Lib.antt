@@ -1,0 +1,9 @@
+pub mod AnswerLaws
+pub mod CapLaws
+pub mod ListedLaws
+pub mod FoundLaws
+pub mod LockLaws
+pub mod WalkLaws
+pub mod PairLaws
+pub mod RowLaws
+pub mod RuleLaws
