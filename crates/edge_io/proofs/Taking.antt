@@ -1,6 +1,6 @@
 -- What a read from a list of bytes leaves and gives.
 use Rattle.std.proofs.Common.{◌≡◌, ℕ, ◌+◌, ◌-◌, ◌<◌, List, [], ◌∷◌, ◌++◌, length, take, drop, refl, sym, ◌∙◌, ap, arith}
-use Rattle.std.specs.Prelude.{Option, Some, Ok, min}
+use Rattle.std.specs.Prelude.{Some, Ok, min}
 use Rattle.std.proofs.lemmas.List.{take_rest, take-append-drop}
 use Rattle.std.proofs.Math.Seq.{take-add, drop-drop}
 use Rattle.edge_io.specs.Told.{TakesLeft, Adds}
