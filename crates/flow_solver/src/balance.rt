@@ -48,14 +48,7 @@ fn drain_all(
 {
     let mut search = blank(alloc, net)?;
     for source in 0..net.nodes() {
-        match drain(
-            net,
-            links,
-            &mut state,
-            &mut search,
-            source,
-            &mut patience,
-        )? {
+        match drain(net, links, &mut state, &mut search, source, &mut patience)? {
             Outcome::Drained => {}
             Outcome::Stuck => return Ok(Balance::Cut(search.settled)),
             Outcome::GivenUp => return Ok(Balance::GivenUp),

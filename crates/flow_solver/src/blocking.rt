@@ -9,9 +9,9 @@ ghost use Rattle.residual_arcs.specs.Links.{AreLinks};
 ghost use Rattle.flow_solver.specs.State.{IsState, AreCalm};
 
 use crate::levels::{FAR, is_even, levels_of};
+use crate::links::link_of;
 use crate::path::deficit_of;
 use crate::push::push_over;
-use crate::links::link_of;
 use crate::search::amount_of;
 use crate::state::{State, left_at};
 use bounded_network::Network;
@@ -42,33 +42,19 @@ fn is_below(lower: u32, upper: u32) -> bool {
 }
 
 // Whether the walk can go on over the node's link.
-fn leads_down(
-    net: &Network,
-    state: &State,
-    walk: &Walk,
-    node: u32,
-    link: Link,
-) -> bool
+fn leads_down(net: &Network, state: &State, walk: &Walk, node: u32, link: Link) -> bool
     requires kept { IsState net.now state.now.flow.items state.now.excess.items state.now.potentials.items }
     requires walk { IsWalk net.now walk.now }
     requires node_in { node < net.now.nodes }
     requires link { IsLinkWithin net.now link }
 {
-    is_below(
-        walk.levels[link.to as usize],
-        walk.levels[node as usize],
-    ) && is_even(net, state, node, link)
+    is_below(walk.levels[link.to as usize], walk.levels[node as usize])
+        && is_even(net, state, node, link)
         && left_at(net, state, link.step) > 0
 }
 
 // The link of the node over which the walk goes on.
-fn way_down(
-    net: &Network,
-    links: &Links,
-    state: &State,
-    walk: &mut Walk,
-    node: u32,
-) -> Option<Link>
+fn way_down(net: &Network, links: &Links, state: &State, walk: &mut Walk, node: u32) -> Option<Link>
     requires kept { IsState net.now state.now.flow.items state.now.excess.items state.now.potentials.items }
     requires links { AreLinks net.now links.now }
     requires walk { IsWalk net.now walk.old }
@@ -228,12 +214,7 @@ fn walk_from(
 }
 
 // A walk that has not begun.
-fn walk_at(
-    alloc: Global,
-    net: &Network,
-    links: &Links,
-    state: &State,
-) -> Result<Walk, AllocError>
+fn walk_at(alloc: Global, net: &Network, links: &Links, state: &State) -> Result<Walk, AllocError>
     requires kept { IsState net.now state.now.flow.items state.now.excess.items state.now.potentials.items }
     requires links { AreLinks net.now links.now }
     ensures { IfOk result (λ walk. IsWalk net.now walk) }
@@ -247,12 +228,7 @@ fn walk_at(
 }
 
 // One pass. Says whether it pushed anything.
-fn pass(
-    alloc: Global,
-    net: &Network,
-    links: &Links,
-    state: &mut State,
-) -> Result<bool, AllocError>
+fn pass(alloc: Global, net: &Network, links: &Links, state: &mut State) -> Result<bool, AllocError>
     requires kept { IsState net.now state.old.flow.items state.old.excess.items state.old.potentials.items }
     requires calm { AreCalm net.now state.old.excess.items state.old.potentials.items }
     requires links { AreLinks net.now links.now }

@@ -160,12 +160,7 @@ fn give(
 }
 
 // Pushes as much of the node's excess over its link as that takes, if its reduced cost is negative.
-fn push_over(
-    net: &Network,
-    coarse: &mut Coarse,
-    node: u32,
-    link: Link,
-) -> Result<(), AllocError>
+fn push_over(net: &Network, coarse: &mut Coarse, node: u32, link: Link) -> Result<(), AllocError>
     requires coarse { IsCoarse net.now coarse.old }
     requires node_in { node < net.now.nodes }
     requires link { IsLinkWithin net.now link }
@@ -202,12 +197,7 @@ fn push_excess(
     let end = links.starts[node as usize + 1];
     let mut place = coarse.next[node as usize];
     while place < end {
-        push_over(
-            net,
-            coarse,
-            node,
-            link_of(net, links, place),
-        )?;
+        push_over(net, coarse, node, link_of(net, links, place))?;
         if coarse.excess[node as usize] <= 0 {
             break;
         }
@@ -251,12 +241,7 @@ fn best_of(net: &Network, links: &Links, coarse: &Coarse, node: u32) -> i64
 {
     let mut best = -2 * MAX_COST;
     for place in links.starts[node as usize]..links.starts[node as usize + 1] {
-        best = better_over(
-            net,
-            coarse,
-            link_of(net, links, place),
-            best,
-        );
+        best = better_over(net, coarse, link_of(net, links, place), best);
     }
     best
 }
@@ -286,12 +271,7 @@ pub fn set_potential(net: &Network, coarse: &mut Coarse, node: u32, value: i64)
 }
 
 // Makes the node active, with all its links to push over again.
-fn activate(
-    net: &Network,
-    links: &Links,
-    coarse: &mut Coarse,
-    node: u32,
-) -> Result<(), AllocError>
+fn activate(net: &Network, links: &Links, coarse: &mut Coarse, node: u32) -> Result<(), AllocError>
     requires coarse { IsCoarse net.now coarse.old }
     requires links { AreLinks net.now links.now }
     requires node_in { node < net.now.nodes }
@@ -304,12 +284,7 @@ fn activate(
 
 // Relabels the node, so that it has a link of negative reduced cost. Where that would be below the least potential,
 // it keeps its excess.
-fn relabel(
-    net: &Network,
-    links: &Links,
-    coarse: &mut Coarse,
-    node: u32,
-) -> Result<(), AllocError>
+fn relabel(net: &Network, links: &Links, coarse: &mut Coarse, node: u32) -> Result<(), AllocError>
     requires coarse { IsCoarse net.now coarse.old }
     requires links { AreLinks net.now links.now }
     requires node_in { node < net.now.nodes }

@@ -9,8 +9,8 @@ ghost use Rattle.residual_arcs.specs.Links.{AreLinks};
 ghost use Rattle.flow_solver.specs.State.{IsWithin};
 
 use crate::coarse::{Coarse, relabelled, room_in, set_potential};
-use crate::queue::{Queue, empty, pop, push};
 use crate::links::link_of;
+use crate::queue::{Queue, empty, pop, push};
 use crate::search::UNREACHED;
 use bounded_network::Network;
 use residual_arcs::{Link, Links};

@@ -28,8 +28,7 @@ pub fn is_even(net: &Network, state: &State, node: u32, link: Link) -> bool
     requires link { IsLinkWithin net.now link }
 {
     let _nodes = net.nodes();
-    state.potentials[node as usize].saturating_add(link.cost)
-        == state.potentials[link.to as usize]
+    state.potentials[node as usize].saturating_add(link.cost) == state.potentials[link.to as usize]
 }
 
 // Notes the level of a node.
