@@ -134,13 +134,18 @@ certificate_takes at rules answer e =
     let same = ok_is {E = TextFault} (a.0.0, b.0.0) (rules, answer) c.2 in
     subst (λ (x : RulesValue × Answer). IsCertificate x.0 x.1 × (at.bytes ≡ rules_text x.0 ++ answer_text x.1)) same (certificate_from a.0.0 b.0.0 first.0 second.0 second.1, text)
 
-certificate_again : (number : ℕ) (rules : RulesValue) (answer : Answer) → IsCertificate rules answer → certificate_at (record { number = number; bytes = certificate_text rules answer }) ≡ Ok (rules, answer)
+pub certificate_again : (number : ℕ) (rules : RulesValue) (answer : Answer) → IsCertificate rules answer → certificate_at (record { number = number; bytes = certificate_text rules answer }) ≡ Ok (rules, answer)
 unfolding certificate_at certificate_text
 certificate_again number rules answer is =
     let first = rules_again rules number (answer_text answer) is.rules_kept in
     let second = answer_again (sizes_of rules) first.0 answer [] (sizes_small rules is.rules_kept) is.whole (answer_for rules answer is.matching is.spelled) in
     let here : answer_at (sizes_of rules) (record { number = first.0; bytes = answer_text answer }) ≡ Ok (answer, record { number = second.0; bytes = [] }) = rw append-nil at second.1 in
     rw (first.1, here, end_ok (record { number = second.0; bytes = [] }) refl) refl
+
+-- a certificate is the text of its rules with that of its answer behind it
+pub both_texts : (rules : RulesValue) (answer : Answer) → rules_text rules ++ answer_text answer ≡ certificate_text rules answer
+unfolding certificate_text
+both_texts rules answer = refl
 
 -- ---- from the first byte of a source on
 

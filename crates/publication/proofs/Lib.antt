@@ -21,3 +21,4 @@ pub mod InfeasibleLaws
 pub mod CertificateLaws
 pub mod CheckLaws
 pub mod WriteLaws
+pub mod WaitingLaws

@@ -8,5 +8,6 @@ pub mod RulesLists
 pub mod RulesReading
 pub mod RulesText
 pub mod Scans
+pub mod Waiting
 pub mod Certificates
 pub mod Checks

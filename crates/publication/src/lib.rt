@@ -4,10 +4,13 @@
 mod answer;
 mod answer_forms;
 mod answer_text;
+mod answer_writing;
 mod certificate;
 mod checking;
 mod cut_forms;
+mod cut_writing;
 mod infeasible_text;
+mod lottery_writing;
 mod numbers;
 mod pair_form;
 mod paper_form;
@@ -16,7 +19,9 @@ mod reviewer_form;
 mod rules_lines;
 mod rules_reading;
 mod rules_writing;
+mod waiting;
 
+pub use answer_writing::write_answer;
 pub use certificate::{Certificate, ReadRefusal, read_certificate};
 pub use checking::check;
 pub use rules_writing::write_rules;

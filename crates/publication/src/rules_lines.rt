@@ -64,7 +64,8 @@ fn end_line(line: &mut LineBuffer)
 /// The line of a word and a number.
 pub(crate) fn count_line(word: &[u8], number: u64) -> LineBuffer
     requires { length word.now ≤ 64 }
-    ensures { result ≡ line_of (count_line word.now number) }
+    ensures text { result ≡ line_of (count_line word.now number) }
+    ensures few { length result ≤ length word.now + 22 }
 {
     let mut line = LineBuffer::new();
     line.push(word);
