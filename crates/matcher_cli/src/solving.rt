@@ -1,10 +1,11 @@
 // The solution of the rules of the files of a folder.
-ghost use Rattle.std.specs.Prelude.{◌≡◌, ◌≢◌, ◌⊎◌, IsSome};
+ghost use Rattle.std.specs.Prelude.{◌≡◌, ◌≢◌, ◌⊎◌, ◌≤◌, IsSome};
 ghost use Rattle.edge_io.specs.Counts.{HasCause, Rose};
 ghost use Rattle.edge_io.specs.Files.{told_files};
 ghost use Rattle.edge_io.specs.Told.{AddsAll, told};
 ghost use Rattle.match_rules.specs.declared.answer.Mode.TheVariants.{Whole};
-ghost use Rattle.publication.specs.Certificates.{IsCertificate, answer_text, certificate_text};
+ghost use Rattle.publication.specs.Certificates.{IsCertificate, IsSpelled, certificate_text};
+ghost use Rattle.text_lines.specs.declared.number.TheConstants.{MOST_AMOUNT};
 ghost use Rattle.matcher_cli.specs.FolderRules.{rules_in};
 ghost use Rattle.matcher_cli.specs.Solving.{IsSolved, IsSolvedExactly, Solves, SolvesRules, status_of};
 
@@ -13,16 +14,30 @@ use crate::status::Status;
 use edge_io::{Folder, Io, Sink};
 use editions::load;
 use match_rules::{Answer, Mode, Rules};
-use publication::write_rules;
+use publication::{write_answer, write_rules};
 use solve_line::{Verdict, solve};
 use std::alloc::Global;
 
-fn write_answer<K: Sink>(rules: &Rules, answer: &Answer, sink: &mut K) -> Result<(), Io>
-    requires matching { IsCertificate rules.now answer.now }
-    ensures taken { AddsAll (K.taken sink.old) (K.taken sink.new) result (answer_text answer.now) }
-    ensures cause { HasCause (K.faults sink.old) (K.faults sink.new) result }
+// A law: a number of 64 bits is at most the greatest that a text has.
+fn is_amount(number: u64)
+    ensures { number ≤ MOST_AMOUNT }
 {
-    Err(Io::Failed)
+    let _number = number;
+}
+
+// A law: what the types of an answer keep by themselves.
+fn is_spelled(answer: &Answer)
+    ensures { IsSpelled answer.now }
+{
+    match answer {
+        Answer::Lottery(winning) => {
+            let _pieces = winning.lottery.pieces();
+        }
+        Answer::Infeasible(blocked) => {
+            is_amount(blocked.need);
+            is_amount(blocked.room);
+        }
+    }
 }
 
 // Writes rules and their answer.
@@ -40,11 +55,7 @@ fn status_of(answer: &Answer) -> Status
     ensures { result ≡ status_of answer.now }
 {
     match answer {
-        Answer::Lottery(winning) => {
-            // The pieces keep their conditions.
-            let _pieces = winning.lottery.pieces();
-            Status::Done
-        }
+        Answer::Lottery(_) => Status::Done,
         Answer::Infeasible(_) => Status::Infeasible,
     }
 }
@@ -59,8 +70,9 @@ fn write_verdict<K: Sink>(verdict: &Verdict, sink: &mut K) -> Status
 {
     let rules = verdict.rules();
     let answer = verdict.answer();
-    // The rules keep their conditions.
+    // The rules and the answer keep their conditions.
     let _pairs = rules.pairs();
+    is_spelled(answer);
     match write_both(rules, answer, sink) {
         Ok(()) => status_of(answer),
         Err(_) => Status::WriteFault,
