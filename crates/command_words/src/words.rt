@@ -2,11 +2,12 @@
 ghost use Rattle.std.specs.Prelude.{◌≡◌, map, None, Some, [], Err, IfOk, unwrap_or, codes};
 ghost use Rattle.std.specs.String.{string_bytes};
 ghost use Rattle.clap.specs.Words.{all_of, rows_of, found_of};
-ghost use Rattle.command_words.specs.Commands.{command_of, command_of_word};
+ghost use Rattle.command_words.specs.Commands.{command_of, command_of_two, command_of_word, mode_of_word};
 ghost use Rattle.command_words.specs.Hyphens.{is_plain, are_plain};
 
 use crate::found::find_words;
 use clap::ArgMatches;
+use match_rules::Mode;
 use std::alloc::Global;
 
 /// What a list of words asks for.
@@ -16,6 +17,8 @@ pub enum Command {
     Check,
     /// The rules of the current folder.
     Rules,
+    /// These rules and a best lottery in a mode, or a cut that shows that none fits.
+    Solve(Mode),
 }
 
 /// Why words were not read.
@@ -57,11 +60,31 @@ fn command_of_word(word: &str) -> Option<Command>
     }
 }
 
+// The mode that a word names: whole alone, for now.
+fn mode_of_word(word: &str) -> Option<Mode>
+    ensures { result ≡ mode_of_word word.now }
+{
+    match word {
+        "whole" => Some(Mode::Whole),
+        _ => None,
+    }
+}
+
+fn command_of_two(word: &str, other: &str) -> Option<Command>
+    ensures { result ≡ command_of_two word.now other.now }
+{
+    match word {
+        "solve" => Some(Command::Solve(mode_of_word(other)?)),
+        _ => None,
+    }
+}
+
 fn command_of(words: &[&str]) -> Option<Command>
     ensures { result ≡ command_of (map (λ word. word.now) words.now) }
 {
     match words {
         [word] => command_of_word(word),
+        [word, other] => command_of_two(word, other),
         _ => None,
     }
 }

@@ -1,3 +1,4 @@
 pub mod IdLengths
 pub mod ServingLaws
+pub mod SolvingLaws
 pub mod VerdictLaws

@@ -7,7 +7,7 @@ use Rattle.editions.specs.declared.venue.Edited.{Edited}
 use Rattle.editions.specs.Answers.{IsEdited}
 use Rattle.editions.specs.Loads.{IsLoadAnswer, venue_in}
 use Rattle.matcher_cli.specs.declared.status.Status.{Status}
-use Rattle.matcher_cli.specs.declared.status.Status.TheVariants.{Done, Broken, Usage, ReadFault, WriteFault, Refused, Memory}
+use Rattle.matcher_cli.specs.declared.status.Status.TheVariants.{Done, Broken, Infeasible, Usage, ReadFault, WriteFault, Refused, Memory}
 use Rattle.matcher_cli.specs.FolderRules.{Answered, HasLine, IsFaultTold, IsServedExactly, RulesServed, rules_in, rules_of_loaded, within_limits}
 use Rattle.matcher_cli.specs.Verdicts.{IsFault}
 
@@ -29,6 +29,7 @@ pub told_served : (status : Status) (files : List FileValue) (fault : LoadFault)
     → (let answer : Result Edited LoadFault = Err fault in IsLoadAnswer answer (venue_in files)) → IsFaultTold status fault old new → RulesServed status files old new
 told_served Done files fault old new answer told = absurd told
 told_served Broken files fault old new answer told = told
+told_served Infeasible files fault old new answer told = told
 told_served Usage files fault old new answer told = told
 told_served ReadFault files fault old new answer told = tt
 told_served WriteFault files fault old new answer told = rw (refused_rules files fault told.0 answer) told.1
@@ -43,6 +44,7 @@ for_fault status (Err refused) fault = inr fault
 pub served_exact : (status : Status) (files : List FileValue) (old : List ℕ) (new : Option (List ℕ)) → RulesServed status files old new → IsServedExactly (rules_in files) status
 served_exact Done files old new (rules, is, written) = rw is (inl refl)
 served_exact Broken files old new served = absurd served
+served_exact Infeasible files old new served = absurd served
 served_exact Usage files old new served = absurd served
 served_exact ReadFault files old new served = for_fault ReadFault (rules_in files) tt
 served_exact WriteFault files old new served = for_fault WriteFault (rules_in files) tt

@@ -4,7 +4,7 @@ use Rattle.match_rules.specs.declared.answer.Answer.{Answer}
 use Rattle.match_rules.specs.Rules.{RulesValue}
 use Rattle.publication.specs.Checks.{Holds}
 use Rattle.matcher_cli.specs.declared.status.Status.{Status}
-use Rattle.matcher_cli.specs.declared.status.Status.TheVariants.{Done, Broken, Usage, ReadFault, WriteFault, Refused, Memory}
+use Rattle.matcher_cli.specs.declared.status.Status.TheVariants.{Done, Broken, Infeasible, Usage, ReadFault, WriteFault, Refused, Memory}
 use Rattle.matcher_cli.specs.Verdicts.{IsTextOf, Judges, Checks, IsFault, IsExact}
 
 -- what is judged for a text is what is checked
@@ -12,6 +12,7 @@ pub judges_checks : (status : Status) (bytes : List ℕ) (rules : RulesValue) (a
     → IsTextOf bytes rules answer → Judges status rules answer old new → Checks status bytes old new
 judges_checks Done bytes rules answer old new text judged = (rules, answer, text, judged)
 judges_checks Broken bytes rules answer old new text judged = (rules, answer, text, judged)
+judges_checks Infeasible bytes rules answer old new text judged = judged
 judges_checks Usage bytes rules answer old new text judged = judged
 judges_checks ReadFault bytes rules answer old new text judged = tt
 judges_checks WriteFault bytes rules answer old new text judged = inl (rules, answer, text, judged)
@@ -51,6 +52,7 @@ judges_exact Broken bytes rules answer old new text only judged = record {
   invalid = λ r a t broken. inl refl;
   no_text = λ none. absurd (none rules answer text);
 }
+judges_exact Infeasible bytes rules answer old new text only judged = absurd judged
 judges_exact Usage bytes rules answer old new text only judged = absurd judged
 judges_exact ReadFault bytes rules answer old new text only judged = absurd judged
 judges_exact WriteFault bytes rules answer old new text only judged = fault_exact bytes WriteFault tt

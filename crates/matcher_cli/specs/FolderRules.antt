@@ -9,7 +9,7 @@ use Rattle.editions.specs.Loads.{Loaded, venue_in}
 use Rattle.venue_rules.specs.VenueRules.{rules_of}
 use Rattle.publication.specs.RulesText.{rules_text}
 use Rattle.matcher_cli.specs.declared.status.Status.{Status}
-use Rattle.matcher_cli.specs.declared.status.Status.TheVariants.{Done, Broken, Usage, ReadFault, WriteFault, Refused, Memory}
+use Rattle.matcher_cli.specs.declared.status.Status.TheVariants.{Done, Broken, Infeasible, Usage, ReadFault, WriteFault, Refused, Memory}
 use Rattle.matcher_cli.specs.Refusals.{refusal_text}
 use Rattle.matcher_cli.specs.Verdicts.{FrontWritten, IsButForFaults, Written}
 
@@ -38,6 +38,7 @@ text_due (Err fault) = refusal_text fault
 abbrev pub RulesServed : Status → List FileValue → List ℕ → Option (List ℕ) → Type 0
 RulesServed Done files old new = (rules : RulesValue) × (rules_in files ≡ Ok rules) × Written old new (rules_text rules)
 RulesServed Broken files old new = ⊥
+RulesServed Infeasible files old new = ⊥
 RulesServed Usage files old new = ⊥
 RulesServed ReadFault files old new = Unit {0}
 RulesServed WriteFault files old new = FrontWritten old new (text_due (rules_in files))
@@ -60,6 +61,7 @@ HasLine (load.Limit fault) = Unit {0}
 abbrev pub IsFaultTold : Status → LoadFault → List ℕ → Option (List ℕ) → Type 0
 IsFaultTold Done fault old new = ⊥
 IsFaultTold Broken fault old new = ⊥
+IsFaultTold Infeasible fault old new = ⊥
 IsFaultTold Usage fault old new = ⊥
 IsFaultTold ReadFault fault old new = fault ≡ load.Folder
 IsFaultTold WriteFault fault old new = HasLine fault × FrontWritten old new (refusal_text fault)

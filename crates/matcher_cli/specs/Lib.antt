@@ -2,5 +2,6 @@ pub mod Codes
 pub mod FolderRules
 pub mod Lines
 pub mod Refusals
+pub mod Solving
 pub mod Verdicts
 pub mod Words

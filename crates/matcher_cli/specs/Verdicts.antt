@@ -7,7 +7,7 @@ use Rattle.match_rules.specs.Rules.{RulesValue}
 use Rattle.publication.specs.Certificates.{IsCertificate, certificate_text}
 use Rattle.publication.specs.Checks.{check_break_of, Holds}
 use Rattle.matcher_cli.specs.declared.status.Status.{Status}
-use Rattle.matcher_cli.specs.declared.status.Status.TheVariants.{Done, Broken, Usage, ReadFault, WriteFault, Refused, Memory}
+use Rattle.matcher_cli.specs.declared.status.Status.TheVariants.{Done, Broken, Infeasible, Usage, ReadFault, WriteFault, Refused, Memory}
 use Rattle.matcher_cli.specs.Lines.{valid_line, broken_line, refused_line}
 
 -- bytes that are the text of rules and of an answer to them
@@ -41,6 +41,7 @@ judged_line rules answer = line_of answer (check_break_of rules answer)
 abbrev pub Judges : Status → RulesValue → Answer → List ℕ → Option (List ℕ) → Type 0
 Judges Done rules answer old new = Holds rules answer × Written old new (valid_line answer)
 Judges Broken rules answer old new = (broken : Break) × IsBrokenBy rules answer broken × Written old new (broken_line broken)
+Judges Infeasible rules answer old new = ⊥
 Judges Usage rules answer old new = ⊥
 Judges ReadFault rules answer old new = ⊥
 Judges WriteFault rules answer old new = FrontWritten old new (judged_line rules answer)
@@ -61,6 +62,7 @@ FrontDue bytes old new =
 abbrev pub Checks : Status → List ℕ → List ℕ → Option (List ℕ) → Type 0
 Checks Done bytes old new = (rules : RulesValue) × (answer : Answer) × IsTextOf bytes rules answer × Judges Done rules answer old new
 Checks Broken bytes old new = (rules : RulesValue) × (answer : Answer) × IsTextOf bytes rules answer × Judges Broken rules answer old new
+Checks Infeasible bytes old new = ⊥
 Checks Usage bytes old new = ⊥
 Checks ReadFault bytes old new = Unit {0}
 Checks WriteFault bytes old new = FrontDue bytes old new
@@ -71,6 +73,7 @@ Checks Memory bytes old new = Unit {0}
 abbrev pub IsFault : Status → Type 0
 IsFault Done = ⊥
 IsFault Broken = ⊥
+IsFault Infeasible = ⊥
 IsFault Usage = ⊥
 IsFault ReadFault = Unit {0}
 IsFault WriteFault = Unit {0}

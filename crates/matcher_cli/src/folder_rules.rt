@@ -28,7 +28,7 @@ fn refuse_folder<K: Sink>(fault: &LoadFault, sink: &mut K) -> Status
 }
 
 // Says what is wrong with a folder.
-fn tell_fault<K: Sink>(fault: &LoadFault, sink: &mut K) -> Status
+pub(crate) fn tell_fault<K: Sink>(fault: &LoadFault, sink: &mut K) -> Status
     ensures told { IsFaultTold result fault.now (told (K.taken sink.old)) (K.taken sink.new) }
     ensures cause { result ≡ Status.WriteFault → Rose (K.faults sink.old) (K.faults sink.new) }
     ensures quiet { (result ≡ Status.ReadFault) ⊎ (result ≡ Status.Memory) → K.taken sink.new ≡ K.taken sink.old }

@@ -5,6 +5,7 @@ mod folder_rules;
 mod lines;
 mod matching;
 mod refusals;
+mod solving;
 mod status;
 
 pub use matching::matcher;

@@ -7,15 +7,17 @@ ghost use Rattle.publication.specs.Certificates.{IsCertificate};
 ghost use Rattle.command_words.specs.Usage.{usage_text};
 ghost use Rattle.matcher_cli.specs.FolderRules.{IsServedExactly, RulesServed, rules_in};
 ghost use Rattle.matcher_cli.specs.Lines.{refused_line};
+ghost use Rattle.matcher_cli.specs.Solving.{IsSolvedExactly, Solves};
 ghost use Rattle.matcher_cli.specs.Words.{Asks, AsksNothing};
 ghost use Rattle.matcher_cli.specs.Verdicts.{IsExact, Judges, Checks, FrontWritten, Written};
 
 use crate::folder_rules::serve_rules;
 use crate::lines::{broken_line, valid_line};
+use crate::solving::serve_solution;
 use crate::status::Status;
 use command_words::{Command, WordsFault, read_words, usage};
 use edge_io::{Folder, Sink, Source, write_all};
-use match_rules::{Answer, Rules, Scratch};
+use match_rules::{Answer, Mode, Rules, Scratch};
 use publication::{ReadRefusal, check, read_certificate};
 use std::alloc::Global;
 
@@ -89,7 +91,8 @@ fn check_text<S: Source, K: Sink>(alloc: Global, source: &mut S, sink: &mut K) -
 /// Does what the words ask. With the one word `check` it reads a certificate from the source, all that there is, and
 /// writes the line of the check into the sink; its memory is that of the certificate, of its longest line, 65,536
 /// bytes, and a counter for each paper, reviewer, group and pair. With the one word `rules` it reads the files of the
-/// folder and writes their rules; its memory is that of the files one at a time, and of what they make.
+/// folder and writes their rules; its memory is that of the files one at a time, and of what they make. With the words
+/// `solve whole` it writes these rules and a best lottery of them with its evidence, or the cut that shows that none fits.
 pub fn matcher<S: Source, K: Sink, F: Folder>(
     alloc: Global,
     words: &[String],
@@ -117,11 +120,18 @@ pub fn matcher<S: Source, K: Sink, F: Folder>(
     ensures exact_rules { IsSome (F.files folder.new) → Asks words.now Command.Rules → IsServedExactly (rules_in (told_files (F.files folder.old))) result }
     ensures folder_fault { Asks words.now Command.Rules → result ≡ Status.ReadFault → Rose (F.faults folder.old) (F.faults folder.new) }
 
+    // The solution, where the folder tells its files: 0 comes exactly where some lottery fits their rules, with the text of
+    // the rules and of a certified lottery, which no lottery under these rules beats; 1 exactly where none fits, with the
+    // text of a cut that shows it; 6 where they make no rules, as for the rules. Where writing failed, a front was written.
+    ensures solves { IsSome (F.files folder.new) → Asks words.now (Command.Solve Mode.Whole) → Solves result (told_files (F.files folder.old)) (told (K.taken sink.old)) (K.taken sink.new) }
+    ensures exact_solves { IsSome (F.files folder.new) → Asks words.now (Command.Solve Mode.Whole) → IsSolvedExactly (rules_in (told_files (F.files folder.old))) result }
+    ensures solved_fault { Asks words.now (Command.Solve Mode.Whole) → result ≡ Status.ReadFault → Rose (F.faults folder.old) (F.faults folder.new) }
+
     ensures write_fault { result ≡ Status.WriteFault → Rose (K.faults sink.old) (K.faults sink.new) }
 
-    // `check` alone reads from the source, and `rules` alone from the folder.
+    // `check` alone reads from the source, and `rules` and `solve` alone from the folder.
     ensures source_kept { ¬ (Asks words.now Command.Check) → source.new ≡ source.old }
-    ensures folder_kept { ¬ (Asks words.now Command.Rules) → folder.new ≡ folder.old }
+    ensures folder_kept { ¬ (Asks words.now Command.Rules) → ¬ (Asks words.now (Command.Solve Mode.Whole)) → folder.new ≡ folder.old }
 
     // Nothing is written where reading failed or memory was wanting.
     ensures quiet { (result ≡ Status.ReadFault) ⊎ (result ≡ Status.Memory) → K.taken sink.new ≡ K.taken sink.old }
@@ -129,6 +139,7 @@ pub fn matcher<S: Source, K: Sink, F: Folder>(
     match read_words(alloc, words) {
         Ok(Command::Check) => check_text(alloc, source, sink),
         Ok(Command::Rules) => serve_rules(alloc, folder, sink),
+        Ok(Command::Solve(mode)) => serve_solution(alloc, mode, folder, sink),
         Err(WordsFault::Usage) => refuse_words(sink),
         Err(WordsFault::Memory) => Status::Memory,
     }

@@ -5,10 +5,12 @@ ghost use Rattle.matcher_cli.specs.Codes.{code_of};
 /// How a run of the program ended; `code` is the exit status.
 #[derive(Debug, Clone, Copy, PartialEq, Eq)]
 pub enum Status {
-    /// What was asked is done: the answer is valid, or the rules are written.
+    /// What was asked is done: the answer is valid, the rules are written, or a best lottery is written.
     Done,
     /// The answer breaks a clause: the line names the first.
     Broken,
+    /// No lottery fits the rules: the cut that shows it is written.
+    Infeasible,
     /// The words aren't taken.
     Usage,
     /// Reading the input or a file failed.
@@ -29,6 +31,7 @@ impl Status {
         match self {
             Status::Done => 0,
             Status::Broken => 1,
+            Status::Infeasible => 1,
             Status::Usage => 2,
             Status::ReadFault => 3,
             Status::WriteFault => 4,

@@ -1,0 +1,2 @@
+pub mod ScoreLaws
+pub mod VerdictLaws
