@@ -5,7 +5,7 @@ use Rattle.std.proofs.lemmas.List.{take_more, take_all, take-append-drop, append
 use Rattle.std.proofs.lemmas.Result.{MatchResult-from_err}
 use Rattle.std.proofs.Math.Seq.{drop-cons}
 use Rattle.std.specs.List.{flat_map}
-use Rattle.std.specs.Prelude.{Option, IsSome, Result, Ok, Err, IsErr, map, decimal}
+use Rattle.std.specs.Prelude.{Option, Result, Ok, Err, IsErr, map, decimal}
 use Rattle.edge_io.specs.Told.{told, AddsAll, GrowsByFront}
 use Rattle.text_lines.specs.Fields.{with_spaces}
 use Rattle.text_lines.specs.Texts.{line_of, lines_of}
