@@ -1,12 +1,10 @@
 -- A closed set of nodes gives violated marks, and no excess a circulation.
-use Rattle.std.proofs.Common.{◌≡◌, ℕ, ◌<◌, ◌≤◌, Bool, true, false, List, length, refl, sym, ◌∙◌, arith, inl, inr}
+use Rattle.std.proofs.Common.{◌≡◌, ℕ, ◌<◌, ◌≤◌, Bool, true, List, length, sym, ◌∙◌, arith}
 use Rattle.std.specs.Prelude.{ℤ, pos, negsuc, ◌-ℤ◌, ◌*ℤ◌, ◌≤ℤ◌, ◌<ℤ◌, slice_index}
 use Rattle.std.proofs.lemmas.Int.{ints}
-use Rattle.std.proofs.lemmas.Bool.{cases_lt, both_ways}
 use Rattle.std.proofs.Math.IntN.{*ℤ-zero}
 use Rattle.match_rules.specs.Sums.{sum_below}
-use Rattle.bounded_network.specs.Network.{NetworkValue, IsNetwork, IsCirculation, AreViolated, entering, leaving, arc_at, is_marked}
-use Rattle.bounded_network.proofs.Scaled.{scale--ℤ}
+use Rattle.bounded_network.specs.Network.{NetworkValue, IsNetwork, IsCirculation, AreViolated, entering, leaving}
 use Rattle.bounded_network.proofs.Sums.{sum_below-equal, sum_below-zero, term_le_sum}
 use Rattle.bounded_network.proofs.Laws.{rises-are-excesses}
 use Rattle.residual_arcs.proofs.Closing.{AreViolated-from_closed}

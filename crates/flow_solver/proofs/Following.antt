@@ -1,5 +1,5 @@
 -- Links are safe to follow.
-use Rattle.std.proofs.Common.{◌≡◌, ◌<◌, ℕ, List, length}
+use Rattle.std.proofs.Common.{◌≡◌, ℕ, List}
 use Rattle.std.specs.Prelude.{ℤ, ◌+ℤ◌, ◌-ℤ◌}
 use Rattle.bounded_network.specs.Network.{NetworkValue, IsNetwork, arc_at, potential_at}
 use Rattle.residual_arcs.specs.declared.links.Link.{Link}

@@ -1,12 +1,11 @@
 -- The search as a step is relaxed.
-use Rattle.std.proofs.Common.{◌≡◌, ◌≢◌, ℕ, ◌+◌, ◌-◌, ◌<◌, ◌≤◌, ◌==◌, ◌⊎◌, Bool, true, false, List, length, get_or-set_same, get_or-set_other, sym, ap, subst, ◌∙◌, arith, inl, inr}
+use Rattle.std.proofs.Common.{◌≡◌, ◌≢◌, ℕ, ◌+◌, ◌-◌, ◌<◌, ◌≤◌, ◌⊎◌, Bool, false, List, length, get_or-set_same, get_or-set_other, sym, ap, subst, ◌∙◌, arith, inl, inr}
 use Rattle.std.specs.Prelude.{pos, ◌+ℤ◌, slice_index, slice_set}
 use Rattle.std.specs.declared.cmp.Reverse.{Reverse}
 use Rattle.std.proofs.lemmas.Int.{ints}
-use Rattle.std.proofs.lemmas.Bool.{cases_Bool, cases_eq, cases_order, eq-eqb, ne_eqb}
+use Rattle.std.proofs.lemmas.Bool.{cases_Bool, cases_eq}
 use Rattle.std.proofs.lemmas.List.{length-set}
 use Rattle.bounded_network.specs.Network.{NetworkValue, IsNetwork, arc_at}
-use Rattle.bounded_network.specs.declared.network.Arc.{Arc}
 use Rattle.flow_solver.specs.declared.state.State.{State}
 use Rattle.residual_arcs.specs.declared.step.Step.{Step}
 use Rattle.flow_solver.specs.declared.search.Reach.{Reach}

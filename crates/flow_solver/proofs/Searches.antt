@@ -10,7 +10,7 @@ use Rattle.bounded_network.specs.declared.network.Arc.{Arc}
 use Rattle.flow_solver.specs.declared.state.State.{State}
 use Rattle.flow_solver.specs.declared.search.Reach.{Reach}
 use Rattle.flow_solver.specs.Queue.{Waits}
-use Rattle.residual_arcs.specs.Step.{start_of, end_of, step_cost, left_on}
+use Rattle.residual_arcs.specs.Step.{end_of, step_cost, left_on}
 use Rattle.flow_solver.specs.Step.{step_reduced}
 use Rattle.flow_solver.specs.State.{IsWithin, IsState}
 use Rattle.flow_solver.specs.Search.{unreached, distance_at, reach_at, is_settled, IsReach, IsRelaxedFrom, IsTree, IsSearchOf}

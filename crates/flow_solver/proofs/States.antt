@@ -1,12 +1,12 @@
 -- The state after an amount is carried over a step.
-use Rattle.std.proofs.Common.{◌≡◌, ◌≢◌, ℕ, zero, suc, ◌+◌, ◌-◌, ◌*◌, ◌^◌, ◌<◌, ◌≤◌, ◌⊎◌, Bool, true, false, List, length, get_or-set_same, get_or-set_other, refl, sym, ap, ◌∙◌, arith, inl, inr}
+use Rattle.std.proofs.Common.{◌≡◌, ◌≢◌, ℕ, ◌+◌, ◌-◌, ◌*◌, ◌^◌, ◌<◌, ◌≤◌, ◌⊎◌, Bool, true, false, List, length, get_or-set_same, get_or-set_other, refl, sym, ap, ◌∙◌, arith, inl, inr}
 use Rattle.std.specs.Prelude.{ℤ, pos, ◌-ℤ◌, ◌==◌, slice_set, slice_index}
 use Rattle.std.proofs.lemmas.Int.{ints}
 use Rattle.std.proofs.lemmas.Bool.{cases_eq, cases_lt}
 use Rattle.std.proofs.lemmas.List.{length-set, get_or_past}
-use Rattle.match_rules.specs.Sums.{count_below, when}
+use Rattle.match_rules.specs.Sums.{when}
 use Rattle.bounded_network.specs.Network.{NetworkValue, IsNetwork, entering, leaving, arc_at, reduced_cost}
-use Rattle.bounded_network.proofs.Sums.{count_below-equal, count_below-at_most}
+use Rattle.bounded_network.proofs.Sums.{count_below-at_most}
 use Rattle.residual_arcs.proofs.Amounts.{amount-set, when-+, when_at_most}
 use Rattle.residual_arcs.specs.Step.{start_of, end_of, left_on, carried}
 use Rattle.flow_solver.specs.Step.{step_reduced}

@@ -1,5 +1,5 @@
 -- The steps that leave each node, over the arcs that have a choice.
-use Rattle.std.specs.Prelude.{ℕ, ◌≡◌, ◌+◌, ◌<◌, ◌≤◌, Bool, false, List, length, slice_index, slice_index_or, All, pos}
+use Rattle.std.specs.Prelude.{ℕ, ◌≡◌, ◌+◌, ◌<◌, ◌≤◌, false, List, length, slice_index, slice_index_or, All, pos}
 use Rattle.bounded_network.specs.Network.{NetworkValue, arc_at}
 use Rattle.bounded_network.specs.declared.network.Arc.{Arc}
 use Rattle.residual_arcs.specs.declared.step.Step.{Step}

@@ -1,9 +1,7 @@
-use Rattle.std.proofs.Common.{◌≡◌, ◌<◌, ◌-◌, arith, length, ap, sym}
+use Rattle.std.proofs.Common.{◌≡◌, ◌<◌, ◌-◌, arith, length, ap}
 use Rattle.std.specs.BinaryHeap.{heap_items}
 use Rattle.std.proofs.lemmas.List.{get_or_read}
 use Rattle.std.proofs.lemmas.Int.{ints}
-use Rattle.bounded_network.specs.Network.{arc_at}
-use Rattle.residual_arcs.specs.Step.{end_of}
 use Rattle.flow_solver.specs.Search.{IsSearch, distance_at}
 use Rattle.flow_solver.proofs.Bounds.{width_some}
 use Rattle.flow_solver.proofs.Following.{within_link}

@@ -2,8 +2,8 @@ use Rattle.std.proofs.Common.{◌≡◌, ◌≤◌, ◌<◌, ◌+◌, arith, len
 use Rattle.std.specs.Prelude.{slice_index}
 use Rattle.std.proofs.lemmas.List.{get_or_read}
 use Rattle.residual_arcs.specs.Links.{link_at, no_link, start_at}
-use Rattle.flow_solver.specs.Search.{IsRelaxed, IsRelaxedFrom}
-use Rattle.flow_solver.proofs.Relaxing.{AreRelaxedTo, AreRelaxedTo-more, IsRelaxedFrom-links, SameTree-then}
+use Rattle.flow_solver.specs.Search.{IsRelaxed}
+use Rattle.flow_solver.proofs.Relaxing.{AreRelaxedTo-more, IsRelaxedFrom-links, SameTree-then}
 use Rattle.flow_solver.proofs.search.relax_all.Goals as goal
 use Rattle.flow_solver.proofs.search.relax_all.Goals.{After-index}
 
