@@ -1,8 +1,8 @@
 // The venue of a folder: its files as edits, one after the other.
 
-ghost use Rattle.std.specs.Prelude.{◌≡◌, ℕ, List, Option, Ok, IsErrOf};
+ghost use Rattle.std.specs.Prelude.{◌≡◌, ℕ, List, Option, Ok, IfOk, IsErrOf};
 ghost use Rattle.edge_io.specs.Files.{IsRead, file_named};
-ghost use Rattle.table_edits.specs.Files.{file_of};
+ghost use Rattle.table_edits.specs.Files.{file_of, tables_of};
 ghost use Rattle.editions.specs.Loads.{IsLoadAnswer, LoadFails, Loads, ReadsFiles, after_file, after_files, in_file, venue_in};
 ghost use Rattle.editions.specs.Edits.{venue_after};
 
@@ -12,7 +12,7 @@ use crate::venue::{Edited, Venue};
 use bid_import::{Code, ImportFault};
 use edge_io::{FileRead, Folder, FolderFault};
 use score_spec::Text;
-use std::alloc::Global;
+use std::alloc::{AllocError, Global};
 use table_edits::{How, TableName, file_name, has_to_be_there, tables_of};
 
 fn after_absent(venue: Venue, table: &TableName, file: Text) -> Result<Venue, LoadFault>
@@ -112,6 +112,13 @@ fn read_tables<F: Folder>(
     Ok(venue)
 }
 
+// The tables beside the settings, in the order in which their files are read.
+fn tables_beside(alloc: Global, venue: &Venue) -> Result<Vec<TableName>, AllocError>
+    ensures { IfOk result (λ tables. tables.items ≡ tables_of venue.now.settings.spec.sources) }
+{
+    tables_of(alloc, venue.settings.spec().sources.as_slice())
+}
+
 // The venue of a folder.
 fn venue_of<F: Folder>(alloc: Global, folder: &mut F) -> Result<Venue, LoadFault>
     ensures reads { ReadsFiles (F.files folder.old) (F.files folder.new) (λ files. Loads result (venue_in files)) }
@@ -125,7 +132,7 @@ fn venue_of<F: Folder>(alloc: Global, folder: &mut F) -> Result<Venue, LoadFault
         Ok(venue) => venue,
         Err(fault) => return Err(fault),
     };
-    match tables_of(alloc, venue.settings.spec().sources.as_slice()) {
+    match tables_beside(alloc, &venue) {
         Ok(tables) => read_tables(alloc, folder, venue, tables.as_slice()),
         Err(_) => Err(LoadFault::Memory),
     }
