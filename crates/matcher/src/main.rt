@@ -1,4 +1,5 @@
-//! `matcher check` checks a certificate on standard input, `matcher rules` writes the rules of the current folder.
+//! `matcher check` checks a certificate on standard input, `matcher rules` writes the rules of the current folder, and
+//! `matcher solve whole` writes them with a best lottery, or with a cut that shows that none fits.
 #![tactic(auto)]
 
 use edge_io::{DirFolder, ReadSource, WriteSink};

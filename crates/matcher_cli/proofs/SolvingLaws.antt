@@ -11,7 +11,7 @@ use Rattle.editions.specs.declared.fault.LoadFault.{LoadFault}
 use Rattle.editions.specs.declared.venue.Edited.{Edited}
 use Rattle.editions.specs.Loads.{IsLoadAnswer, venue_in}
 use Rattle.publication.specs.Certificates.{IsCertificate, IsSpelled, certificate_text}
-use Rattle.solve_line.specs.Verdicts.{IfLottery, IsVerdict}
+use Rattle.solve_line.specs.Verdicts.{IsVerdict}
 use Rattle.solve_line.proofs.VerdictLaws.{verdict-whole-best}
 use Rattle.matcher_cli.specs.declared.status.Status.{Status}
 use Rattle.matcher_cli.specs.declared.status.Status.TheVariants as status
