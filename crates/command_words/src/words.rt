@@ -11,7 +11,7 @@ use match_rules::Mode;
 use std::alloc::Global;
 
 /// What a list of words asks for.
-#[derive(Clone, Copy, Debug, PartialEq, Eq)]
+#[derive(Clone, Copy)]
 pub enum Command {
     /// The check of a certificate.
     Check,
