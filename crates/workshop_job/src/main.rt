@@ -1,5 +1,5 @@
 //! Does what a chair does in the folder of a conference: `matcher solve whole`, and then `matcher check` on what that wrote. It
-//! prints the statuses, the text of the rules, and the line of the check.
+//! prints the statuses, the text of the rules, and the line of the check up to its count of pieces, which a solver may choose.
 //!
 //! Its stored run has the workshop of `examples/` as that folder. The text of the rules was made by `bench/rules.py`; the total
 //! is that of any best lottery.
@@ -44,7 +44,8 @@ fn run(rt: &HostRuntime) -> anyhow::Result<()> {
     print!(rt; "status {status}\n{rules}")?;
     let mut line = SureSink::new(alloc);
     let status = checked(rt, Vec::from_slice(alloc, certificate.bytes())?, &mut line)?;
-    print!(rt; "status {status}\n{}", str::from_utf8(line.bytes())?)?;
+    let (judgement, _) = str::from_utf8(line.bytes())?.split_once(" pieces ").context("no count of pieces")?;
+    print!(rt; "status {status}\n{judgement}\n")?;
     Ok(())
 }
 
