@@ -5,6 +5,7 @@ use Rattle.std.proofs.lemmas.List.Sums.{count_by_more_yes, count_by_more_no, cou
 use Rattle.std.proofs.lemmas.List.Elements.{All-from_get_or, All-take}
 use Rattle.std.proofs.lemmas.Nat.{mul-le}
 use Rattle.match_rules.specs.declared.lottery.Piece.{Piece}
+use Rattle.match_rules.specs.declared.rules.TheConstants.{MOST_TICKETS}
 use Rattle.match_rules.specs.Assignments.{holds, times}
 use Rattle.match_rules.specs.Pieces.{DoAscend, piece_at, no_piece}
 
@@ -76,8 +77,8 @@ weighed-more places counts base weight i x h in_counts up each e within =
     ]
 
 -- the weights of the pieces so far that hold a pair
-pub times-most : (pieces : List Piece) (i e : ℕ) → length pieces ≤ 10000
-    → ((k : ℕ) → k < length pieces → (piece_at pieces k).weight ≤ 10000) → ((k : ℕ) → k < length pieces → length (piece_at pieces k).pairs ≤ 250000)
+pub times-most : (pieces : List Piece) (i e : ℕ) → length pieces ≤ MOST_TICKETS
+    → ((k : ℕ) → k < length pieces → (piece_at pieces k).weight ≤ MOST_TICKETS) → ((k : ℕ) → k < length pieces → length (piece_at pieces k).pairs ≤ 250000)
     → times (take i pieces) e ≤ 2 ^ 62
 times-most pieces i e few light short =
     let weighed = λ (piece : Piece). piece.weight * holds piece.pairs e in
@@ -85,7 +86,7 @@ times-most pieces i e few light short =
     All-from_get_or (λ (piece : Piece). piece.weight * holds piece.pairs e ≤ 2500000000) pieces no_piece
     (λ k h. let some = count_by-le-length (λ y. eqb y e) (piece_at pieces k).pairs in
     let length_of = short k h in
-    mul-le (piece_at pieces k).weight (holds (piece_at pieces k).pairs e) 10000 250000 (light k h) (omega arith)) in
+    mul-le (piece_at pieces k).weight (holds (piece_at pieces k).pairs e) MOST_TICKETS 250000 (light k h) (omega arith)) in
     let in_all = sum_by-le weighed 2500000000 (take i pieces) (All-take (λ (piece : Piece). piece.weight * holds piece.pairs e ≤ 2500000000) i pieces each) in
     let number = length-take i pieces in
     omega (arith, in_all)

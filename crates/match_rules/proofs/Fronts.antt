@@ -104,9 +104,9 @@ rows-from_reviewers reviewers n h all r at =
 pair_in-take : (pairs : List RulePair) (n e : ℕ) → e < n → pair_in (take n pairs) e ≡ pair_in pairs e
 pair_in-take pairs n e h = get_or-take n pairs e no_pair h
 
-pub pairs-from_rows : (papers reviewers : ℕ) (pairs : List RulePair) (n : ℕ) → n ≤ length pairs → ((e : ℕ) → e < n → IsNextPair papers reviewers pairs e)
-    → ArePairs papers reviewers (take n pairs)
-pairs-from_rows papers reviewers pairs n h each =
+pub pairs-from_rows : (tickets papers reviewers : ℕ) (pairs : List RulePair) (n : ℕ) → n ≤ length pairs → ((e : ℕ) → e < n → IsNextPair tickets papers reviewers pairs e)
+    → ArePairs tickets papers reviewers (take n pairs)
+pairs-from_rows tickets papers reviewers pairs n h each =
     let len : length (take n pairs) ≡ n = length-take-le n pairs h in
     record {
       few = rw len (few_below n MOST_PAIRS (λ e below. (each e below).few));
@@ -116,13 +116,13 @@ pairs-from_rows papers reviewers pairs n h each =
           rw (pair_in-take pairs n e (omega arith), pair_in-take pairs n (e + 1) at) ((each (e + 1) at).after e refl);
     }
 
-pub rows-from_pairs : (papers reviewers : ℕ) (pairs : List RulePair) (n : ℕ) → n ≤ length pairs → ArePairs papers reviewers (take n pairs)
-    → (e : ℕ) → e < n → IsNextPair papers reviewers pairs e
-rows-from_pairs papers reviewers pairs n h all e at =
+pub rows-from_pairs : (tickets papers reviewers : ℕ) (pairs : List RulePair) (n : ℕ) → n ≤ length pairs → ArePairs tickets papers reviewers (take n pairs)
+    → (e : ℕ) → e < n → IsNextPair tickets papers reviewers pairs e
+rows-from_pairs tickets papers reviewers pairs n h all e at =
     let len : length (take n pairs) ≡ n = length-take-le n pairs h in
     let within : e < length (take n pairs) = rw len at in
     let few : length (take n pairs) ≤ MOST_PAIRS = all.few in
-    let here : IsPair papers reviewers (pair_in (take n pairs) e) = all.each e within in
+    let here : IsPair tickets papers reviewers (pair_in (take n pairs) e) = all.each e within in
     record {
       few = omega arith;
       is_pair = rw (pair_in-take pairs n e at) at here;
@@ -163,18 +163,18 @@ first_reviewer reviewers r within before breaks = record {
   breaks = λ all. breaks (rows-from_reviewers reviewers (r + 1) (omega arith) all r (omega arith));
 }
 
-pub all_pairs : (papers reviewers : ℕ) (pairs : List RulePair) → ((e : ℕ) → e < length pairs → IsNextPair papers reviewers pairs e) → ArePairs papers reviewers pairs
-all_pairs papers reviewers pairs each = rw (take_all (length pairs) pairs (omega arith)) at (pairs-from_rows papers reviewers pairs (length pairs) (omega arith) each)
+pub all_pairs : (tickets papers reviewers : ℕ) (pairs : List RulePair) → ((e : ℕ) → e < length pairs → IsNextPair tickets papers reviewers pairs e) → ArePairs tickets papers reviewers pairs
+all_pairs tickets papers reviewers pairs each = rw (take_all (length pairs) pairs (omega arith)) at (pairs-from_rows tickets papers reviewers pairs (length pairs) (omega arith) each)
 
-pub all_rows_of_pairs : (papers reviewers : ℕ) (pairs : List RulePair) → ArePairs papers reviewers pairs → (e : ℕ) → e < length pairs → IsNextPair papers reviewers pairs e
-all_rows_of_pairs papers reviewers pairs all =
-    rows-from_pairs papers reviewers pairs (length pairs) (omega arith) (rw (take_all (length pairs) pairs (omega arith)) all)
+pub all_rows_of_pairs : (tickets papers reviewers : ℕ) (pairs : List RulePair) → ArePairs tickets papers reviewers pairs → (e : ℕ) → e < length pairs → IsNextPair tickets papers reviewers pairs e
+all_rows_of_pairs tickets papers reviewers pairs all =
+    rows-from_pairs tickets papers reviewers pairs (length pairs) (omega arith) (rw (take_all (length pairs) pairs (omega arith)) all)
 
-pub first_pair : (papers reviewers : ℕ) (pairs : List RulePair) (e : ℕ) → e < length pairs → ((q : ℕ) → q < e → IsNextPair papers reviewers pairs q)
-    → ¬ (IsNextPair papers reviewers pairs e)
-    → IsFirstFault (λ n. ArePairs papers reviewers (take n pairs)) (length pairs) e
-first_pair papers reviewers pairs e within before breaks = record {
+pub first_pair : (tickets papers reviewers : ℕ) (pairs : List RulePair) (e : ℕ) → e < length pairs → ((q : ℕ) → q < e → IsNextPair tickets papers reviewers pairs q)
+    → ¬ (IsNextPair tickets papers reviewers pairs e)
+    → IsFirstFault (λ n. ArePairs tickets papers reviewers (take n pairs)) (length pairs) e
+first_pair tickets papers reviewers pairs e within before breaks = record {
   within = within;
-  before = pairs-from_rows papers reviewers pairs e (omega arith) before;
-  breaks = λ all. breaks (rows-from_pairs papers reviewers pairs (e + 1) (omega arith) all e (omega arith));
+  before = pairs-from_rows tickets papers reviewers pairs e (omega arith) before;
+  breaks = λ all. breaks (rows-from_pairs tickets papers reviewers pairs (e + 1) (omega arith) all e (omega arith));
 }

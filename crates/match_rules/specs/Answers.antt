@@ -13,7 +13,6 @@ use Rattle.match_rules.specs.declared.answer.Sieve.TheVariants.{All as EveryPair
 use Rattle.match_rules.specs.declared.answer.Winning.{Winning}
 use Rattle.match_rules.specs.declared.lottery.Piece.{Piece}
 use Rattle.match_rules.specs.declared.answer.TheConstants.{MOST_PRICE, MOST_TOTAL}
-use Rattle.match_rules.specs.declared.rules.TheConstants.{MOST_TICKETS}
 use Rattle.match_rules.specs.Rules.{RulesValue, most_score, pair_at}
 use Rattle.match_rules.specs.Groups.{group_count, is_in_group}
 use Rattle.match_rules.specs.Pieces.{DoAscend}
@@ -51,8 +50,9 @@ LevelMatches rules Unasked = Unit {0}
 LevelMatches rules Free = Unit {0}
 LevelMatches rules (At score cut) = IsWithin most_score score × CutMatches rules cut
 
+-- one share a pair, each of at most all tickets of the rules
 abbrev pub SharesMatch : RulesValue → List ℕ → Type 0
-SharesMatch rules shares = (length shares ≡ length rules.pairs) × All (λ share. share ≤ MOST_TICKETS) shares
+SharesMatch rules shares = (length shares ≡ length rules.pairs) × All (λ share. share ≤ rules.tickets) shares
 
 -- each piece holds places of the rules
 abbrev pub LotteryMatches : RulesValue → List Piece → Type 0

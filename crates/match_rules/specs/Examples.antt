@@ -7,6 +7,7 @@ use Rattle.match_rules.specs.declared.lottery.Piece.{Piece}
 use Rattle.match_rules.specs.declared.rules.RulePaper.{RulePaper}
 use Rattle.match_rules.specs.declared.rules.RuleReviewer.{RuleReviewer}
 use Rattle.match_rules.specs.declared.rules.RulePair.{RulePair}
+use Rattle.match_rules.specs.declared.rules.TheConstants.{RULES_TICKETS}
 use Rattle.match_rules.specs.Groups.{GroupKey}
 use Rattle.match_rules.specs.Rules.{RulesValue, rules_value}
 
@@ -23,7 +24,7 @@ pair p r score cap = record { paper = p; reviewer = r; score = score; floor = 0;
 
 -- a locked pair
 abbrev pub locked_pair : ℕ → ℕ → ℤ → RulePair
-locked_pair p r score = record { paper = p; reviewer = r; score = score; floor = 10000; cap = 10000 }
+locked_pair p r score = record { paper = p; reviewer = r; score = score; floor = RULES_TICKETS; cap = RULES_TICKETS }
 
 abbrev pub piece : ℕ → List ℕ → Piece
 piece weight pairs = record { weight = weight; pairs = pairs }
@@ -55,7 +56,7 @@ r3 = codes "r3"
 
 -- two papers, each of demand 1, and two reviewers
 abbrev pub small_of : List RulePair → RulesValue
-small_of pairs = rules_value 1500 (paper p1 1 ∷ (paper p2 1 ∷ [])) (reviewer r1 None ∷ (reviewer r2 None ∷ [])) pairs
+small_of pairs = rules_value RULES_TICKETS 1500 (paper p1 1 ∷ (paper p2 1 ∷ [])) (reviewer r1 None ∷ (reviewer r2 None ∷ [])) pairs
 
 -- with the scores 1, 0, 0.8, 0.5 and one cap
 abbrev pub small : ℕ → RulesValue
@@ -93,7 +94,7 @@ no_prices = prices (pos 0 ∷ (pos 0 ∷ [])) [] (pos 0 ∷ (pos 0 ∷ []))
 
 -- one paper of demand 2, and a pair with each reviewer
 abbrev pub one_paper : ℕ → List RuleReviewer → List RulePair → RulesValue
-one_paper limit reviewers pairs = rules_value limit (paper p1 2 ∷ []) reviewers pairs
+one_paper limit reviewers pairs = rules_value RULES_TICKETS limit (paper p1 2 ∷ []) reviewers pairs
 
 abbrev pub u : List ℕ
 u = codes "u"
@@ -128,9 +129,9 @@ three_pieces = piece 3334 (0 ∷ (1 ∷ [])) ∷ (piece 3333 (0 ∷ (2 ∷ [])) 
 -- a reviewer who needs a paper and is no candidate
 abbrev pub idle_reviewer : RulesValue
 idle_reviewer =
-    rules_value 1500 (paper p1 1 ∷ []) (reviewer r1 None ∷ (record { id = r2; institution = None; least = 1; greatest = 1 } ∷ []))
+    rules_value RULES_TICKETS 1500 (paper p1 1 ∷ []) (reviewer r1 None ∷ (record { id = r2; institution = None; least = 1; greatest = 1 } ∷ []))
     (pair 0 0 (pos 1000000) 10000 ∷ [])
 
 -- no papers, no reviewers, no pairs
 abbrev pub empty_rules : RulesValue
-empty_rules = rules_value 1500 [] [] []
+empty_rules = rules_value RULES_TICKETS 1500 [] [] []

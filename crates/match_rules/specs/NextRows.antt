@@ -30,7 +30,7 @@ pub record IsNextReviewer (reviewers : List RuleReviewer) (r : ℕ) : Type 0 whe
   pub institution : (name : List ℕ) → (reviewer_in reviewers r).institution ≡ Some name → is_institution name ≡ true
 
 -- the pair at a place
-pub record IsNextPair (papers reviewers : ℕ) (pairs : List RulePair) (e : ℕ) : Type 0 where
+pub record IsNextPair (tickets papers reviewers : ℕ) (pairs : List RulePair) (e : ℕ) : Type 0 where
   pub few : e < MOST_PAIRS
-  pub is_pair : IsPair papers reviewers (pair_in pairs e)
+  pub is_pair : IsPair tickets papers reviewers (pair_in pairs e)
   pub after : (q : ℕ) → q + 1 ≡ e → IsPairBefore (pair_in pairs q) (pair_in pairs e)

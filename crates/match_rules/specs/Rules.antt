@@ -7,7 +7,7 @@ use Rattle.std.specs.declared.cmp.Ordering.TheVariants.{Less}
 use Rattle.match_rules.specs.declared.rules.RulePaper.{RulePaper}
 use Rattle.match_rules.specs.declared.rules.RuleReviewer.{RuleReviewer}
 use Rattle.match_rules.specs.declared.rules.RulePair.{RulePair}
-use Rattle.match_rules.specs.declared.rules.TheConstants.{MOST_TICKETS, MOST_PAPERS, MOST_REVIEWERS, MOST_PAIRS, MOST_DEMAND, MOST_DEMAND_IN_ALL, MOST_LOAD, MOST_LIMIT, MOST_SCORE}
+use Rattle.match_rules.specs.declared.rules.TheConstants.{RULES_TICKETS, MOST_PAPERS, MOST_REVIEWERS, MOST_PAIRS, MOST_DEMAND, MOST_DEMAND_IN_ALL, MOST_LOAD, MOST_LIMIT, MOST_SCORE}
 use Rattle.match_rules.specs.Id.{is_id, is_institution}
 use Rattle.match_rules.specs.Sums.{count_below}
 
@@ -84,29 +84,30 @@ pub record AreReviewers (reviewers : List RuleReviewer) : Type 0 where
 abbrev pub most_score : ℕ
 most_score = MOST_SCORE
 
--- a pair of known places, with a score within its limits and tickets from its floor, which is none or all, to its cap
-pub record IsPair (papers reviewers : ℕ) (pair : RulePair) : Type 0 where
+-- a pair of known places, with a score within its limits and tickets from its floor, which is none or all, to its cap,
+-- which is at most all
+pub record IsPair (tickets papers reviewers : ℕ) (pair : RulePair) : Type 0 where
   pub paper : pair.paper < papers
   pub reviewer : pair.reviewer < reviewers
   pub low : neg_ℤ (pos most_score) ≤ℤ pair.score
   pub high : pair.score ≤ℤ pos most_score
-  pub whole : (pair.floor ≡ 0) ⊎ (pair.floor ≡ MOST_TICKETS)
+  pub whole : (pair.floor ≡ 0) ⊎ (pair.floor ≡ tickets)
   pub ordered : pair.floor ≤ pair.cap
-  pub within : pair.cap ≤ MOST_TICKETS
+  pub within : pair.cap ≤ tickets
 
 -- at most 250,000 pairs that strictly ascend
-pub record ArePairs (papers reviewers : ℕ) (pairs : List RulePair) : Type 0 where
+pub record ArePairs (tickets papers reviewers : ℕ) (pairs : List RulePair) : Type 0 where
   pub few : length pairs ≤ MOST_PAIRS
-  pub each : (e : ℕ) → e < length pairs → IsPair papers reviewers (pair_in pairs e)
+  pub each : (e : ℕ) → e < length pairs → IsPair tickets papers reviewers (pair_in pairs e)
   pub ascending : (e : ℕ) → e + 1 < length pairs → IsPairBefore (pair_in pairs e) (pair_in pairs (e + 1))
 
 -- what the rules of an edition keep
 pub record AreRules (rules : RulesValue) : Type 0 where
-  pub tickets : rules.tickets ≡ MOST_TICKETS
+  pub tickets : rules.tickets ≡ RULES_TICKETS
   pub limit : IsLimit rules.limit
   pub papers : ArePapers rules.papers
   pub reviewers : AreReviewers rules.reviewers
-  pub pairs : ArePairs (length rules.papers) (length rules.reviewers) rules.pairs
+  pub pairs : ArePairs rules.tickets (length rules.papers) (length rules.reviewers) rules.pairs
 
 -- a locked pair has all tickets as its floor
 abbrev pub is_locked : RulesValue → ℕ → Bool
@@ -120,9 +121,9 @@ locked_below rules (suc n) = if is_locked rules n then locked_below rules n ++ (
 unfoldable pub locked_places : RulesValue → List ℕ
 locked_places rules = locked_below rules (length rules.pairs)
 
--- the rules of a limit and three lists
-abbrev pub rules_value : ℕ → List RulePaper → List RuleReviewer → List RulePair → RulesValue
-rules_value limit papers reviewers pairs = record { tickets = MOST_TICKETS; limit = limit; papers = papers; reviewers = reviewers; pairs = pairs }
+-- the rules of a number of tickets, a limit and three lists
+abbrev pub rules_value : ℕ → ℕ → List RulePaper → List RuleReviewer → List RulePair → RulesValue
+rules_value tickets limit papers reviewers pairs = record { tickets = tickets; limit = limit; papers = papers; reviewers = reviewers; pairs = pairs }
 
 -- the first place at which a list, up to and with it, breaks a condition
 pub record IsFirstFault (holds_below : ℕ → Type 0) (count place : ℕ) : Type 0 where

@@ -15,5 +15,5 @@ IsFaultOf (Reviewers place) rules =
     × IsFirstFault (λ n. AreReviewers (take n rules.reviewers)) (length rules.reviewers) place
 IsFaultOf (Pairs place) rules =
     IsLimit rules.limit × ArePapers rules.papers × AreReviewers rules.reviewers
-    × IsFirstFault (λ n. ArePairs (length rules.papers) (length rules.reviewers) (take n rules.pairs)) (length rules.pairs) place
+    × IsFirstFault (λ n. ArePairs rules.tickets (length rules.papers) (length rules.reviewers) (take n rules.pairs)) (length rules.pairs) place
 IsFaultOf Memory rules = Unit {0}

@@ -37,7 +37,8 @@ pub use lottery::{Lottery, Piece};
 pub use matching::matches;
 pub use rules::{
     MOST_DEMAND, MOST_DEMAND_IN_ALL, MOST_LIMIT, MOST_LOAD, MOST_PAIRS, MOST_PAPERS,
-    MOST_REVIEWERS, MOST_SCORE, MOST_TICKETS, RulePair, RulePaper, RuleReviewer, Rules, RulesFault,
+    MOST_REVIEWERS, MOST_SCORE, MOST_TICKETS, RULES_TICKETS, RulePair, RulePaper, RuleReviewer,
+    Rules, RulesFault,
 };
 pub use scores::shares_score;
 pub use sieves::sieve_laws;

@@ -7,18 +7,18 @@ ghost use Rattle.match_rules.specs.RulesFaults.{IsFaultOf};
 use crate::groups::group_table;
 use crate::parts::{pair_fault, paper_fault, reviewer_fault};
 use crate::rules::{
-    MOST_LIMIT, MOST_PAIRS, MOST_TICKETS, RulePair, RulePaper, RuleReviewer, Rules, RulesFault,
+    MOST_LIMIT, MOST_PAIRS, RULES_TICKETS, RulePair, RulePaper, RuleReviewer, Rules, RulesFault,
 };
 use std::alloc::{AllocError, Global};
 
 // The places of the pairs whose floor is all tickets, ascending.
-fn locked_of(alloc: Global, pairs: &[RulePair]) -> Result<Vec<u32>, AllocError>
+fn locked_of(alloc: Global, tickets: u32, pairs: &[RulePair]) -> Result<Vec<u32>, AllocError>
     requires { length pairs.now ≤ MOST_PAIRS }
-    ensures { IfOk result (λ places. places.items ≡ locked_places (rules_value 0 [] [] pairs.now)) }
+    ensures { IfOk result (λ places. places.items ≡ locked_places (rules_value tickets 0 [] [] pairs.now)) }
 {
     let mut places = Vec::new(alloc);
     for (e, pair) in pairs.iter().enumerate() {
-        if pair.floor == MOST_TICKETS {
+        if pair.floor == tickets {
             places.push(e as u32)?;
         }
     }
@@ -32,8 +32,8 @@ fn fault_of(
     reviewers: &[RuleReviewer],
     pairs: &[RulePair],
 ) -> Option<RulesFault>
-    ensures fault { IfSome result (λ fault. IsFaultOf fault (rules_value limit papers.now reviewers.now pairs.now)) }
-    ensures none { IsNone result ↔ AreRules (rules_value limit papers.now reviewers.now pairs.now) }
+    ensures fault { IfSome result (λ fault. IsFaultOf fault (rules_value RULES_TICKETS limit papers.now reviewers.now pairs.now)) }
+    ensures none { IsNone result ↔ AreRules (rules_value RULES_TICKETS limit papers.now reviewers.now pairs.now) }
 {
     if limit < 1 || limit > MOST_LIMIT {
         return Some(RulesFault::Limit);
@@ -44,7 +44,7 @@ fn fault_of(
     if let Some(place) = reviewer_fault(reviewers) {
         return Some(RulesFault::Reviewers { place });
     }
-    match pair_fault(papers.len(), reviewers.len(), pairs) {
+    match pair_fault(RULES_TICKETS, papers.len(), reviewers.len(), pairs) {
         Some(place) => Some(RulesFault::Pairs { place }),
         None => None,
     }
@@ -61,33 +61,34 @@ impl Rules {
         reviewers: Vec<RuleReviewer>,
         pairs: Vec<RulePair>,
     ) -> Result<Rules, RulesFault>
-        ensures value { IfOk result (λ rules. rules ≡ rules_value limit papers.items reviewers.items pairs.items) }
-        ensures good { OnOk result (AreRules (rules_value limit papers.items reviewers.items pairs.items)) }
-        ensures fault { IfErr result (λ fault. IsFaultOf fault (rules_value limit papers.items reviewers.items pairs.items)) }
-        ensures only { AreRules (rules_value limit papers.items reviewers.items pairs.items) → IfErr result (λ fault. fault ≡ RulesFault.Memory) }
+        ensures value { IfOk result (λ rules. rules ≡ rules_value RULES_TICKETS limit papers.items reviewers.items pairs.items) }
+        ensures good { OnOk result (AreRules (rules_value RULES_TICKETS limit papers.items reviewers.items pairs.items)) }
+        ensures fault { IfErr result (λ fault. IsFaultOf fault (rules_value RULES_TICKETS limit papers.items reviewers.items pairs.items)) }
+        ensures only { AreRules (rules_value RULES_TICKETS limit papers.items reviewers.items pairs.items) → IfErr result (λ fault. fault ≡ RulesFault.Memory) }
     {
         if let Some(fault) = fault_of(limit, &papers, &reviewers, &pairs) {
             return Err(fault);
         }
-        match Rules::of_tested(alloc, limit, papers, reviewers, pairs) {
+        match Rules::of_tested(alloc, RULES_TICKETS, limit, papers, reviewers, pairs) {
             Ok(rules) => Ok(rules),
             Err(_) => Err(RulesFault::Memory),
         }
     }
 
-    /// The rules of a limit and three lists, for a caller that tested all their conditions.
+    /// The rules of a number of tickets, a limit and three lists, for a caller that tested all their conditions.
     pub fn of_tested(
         alloc: Global,
+        tickets: u32,
         limit: u32,
         papers: Vec<RulePaper>,
         reviewers: Vec<RuleReviewer>,
         pairs: Vec<RulePair>,
     ) -> Result<Rules, AllocError>
-        requires { AreRules (rules_value limit papers.items reviewers.items pairs.items) }
-        ensures { IfOk result (λ rules. rules ≡ rules_value limit papers.items reviewers.items pairs.items) }
+        requires { AreRules (rules_value tickets limit papers.items reviewers.items pairs.items) }
+        ensures { IfOk result (λ rules. rules ≡ rules_value tickets limit papers.items reviewers.items pairs.items) }
     {
-        let locked = locked_of(alloc, pairs.as_slice())?;
+        let locked = locked_of(alloc, tickets, pairs.as_slice())?;
         let groups = group_table(alloc, reviewers.as_slice(), pairs.as_slice())?;
-        Ok(Rules::of_parts(limit, papers, reviewers, pairs, locked, groups))
+        Ok(Rules::of_parts(tickets, limit, papers, reviewers, pairs, locked, groups))
     }
 }

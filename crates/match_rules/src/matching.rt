@@ -7,7 +7,7 @@ use crate::answer::{Answer, Cut, Level, MOST_PRICE, MOST_TOTAL, Prices, Winning}
 use crate::lists::{Places, PriceList, Shares};
 use crate::lottery::{Lottery, Piece};
 use crate::magnitudes::is_within;
-use crate::rules::{MOST_SCORE, MOST_TICKETS, Rules};
+use crate::rules::{MOST_SCORE, Rules};
 
 fn are_marks(count: u32, places: &Places) -> bool
     ensures { IsTrue result ↔ AreMarks count places.now }
@@ -75,10 +75,10 @@ fn prices_match(rules: &Rules, prices: &Prices) -> bool
     are_prices(rules.reviewers().len(), &prices.reviewers)
 }
 
-fn is_each_share(shares: &[u32]) -> bool
-    ensures { IsTrue result ↔ All (λ share. share ≤ MOST_TICKETS) shares.now }
+fn is_each_share(tickets: u32, shares: &[u32]) -> bool
+    ensures { IsTrue result ↔ All (λ share. share ≤ tickets) shares.now }
 {
-    shares.iter().all(|share| *share <= MOST_TICKETS)
+    shares.iter().all(|share| *share <= tickets)
 }
 
 fn shares_match(rules: &Rules, shares: &Shares) -> bool
@@ -88,7 +88,7 @@ fn shares_match(rules: &Rules, shares: &Shares) -> bool
     if shares.len() != rules.pairs().len() {
         return false;
     }
-    is_each_share(shares)
+    is_each_share(rules.tickets(), shares)
 }
 
 fn have_places_below(count: u32, pieces: &[Piece]) -> bool

@@ -8,7 +8,7 @@ ghost use Rattle.match_rules.specs.NextRows.{demand_below, IsNextPaper, IsNextRe
 use crate::magnitudes::is_within;
 use crate::rules::{
     MOST_DEMAND, MOST_DEMAND_IN_ALL, MOST_LOAD, MOST_PAIRS, MOST_PAPERS, MOST_REVIEWERS,
-    MOST_SCORE, MOST_TICKETS, RulePair, RulePaper, RuleReviewer,
+    MOST_SCORE, RulePair, RulePaper, RuleReviewer,
 };
 
 // Whether a paper may follow the papers before it, which demand this many reviewers.
@@ -98,9 +98,9 @@ pub(crate) fn reviewer_fault(reviewers: &[RuleReviewer]) -> Option<u32>
     None
 }
 
-// Whether a pair is of known places, with numbers within their limits.
-fn is_pair(papers: usize, reviewers: usize, pair: &RulePair) -> bool
-    ensures { IsTrue result ↔ IsPair papers reviewers pair.now }
+// Whether a pair is of known places, with numbers within their limits, in rules of a number of tickets.
+fn is_pair(tickets: u32, papers: usize, reviewers: usize, pair: &RulePair) -> bool
+    ensures { IsTrue result ↔ IsPair tickets papers reviewers pair.now }
 {
     if pair.paper as usize >= papers {
         return false;
@@ -111,25 +111,25 @@ fn is_pair(papers: usize, reviewers: usize, pair: &RulePair) -> bool
     if !is_within(MOST_SCORE, i128::from(pair.score)) {
         return false;
     }
-    if pair.floor != 0 && pair.floor != MOST_TICKETS {
+    if pair.floor != 0 && pair.floor != tickets {
         return false;
     }
     if pair.floor > pair.cap {
         return false;
     }
-    pair.cap <= MOST_TICKETS
+    pair.cap <= tickets
 }
 
 // Whether a pair may follow the pairs before it.
-fn is_next_pair(papers: usize, reviewers: usize, pairs: &[RulePair], e: usize) -> bool
+fn is_next_pair(tickets: u32, papers: usize, reviewers: usize, pairs: &[RulePair], e: usize) -> bool
     requires { e < length pairs.now }
-    ensures { IsTrue result ↔ IsNextPair papers reviewers pairs.now e }
+    ensures { IsTrue result ↔ IsNextPair tickets papers reviewers pairs.now e }
 {
     if e >= MOST_PAIRS as usize {
         return false;
     }
     let pair = &pairs[e];
-    if !is_pair(papers, reviewers, pair) {
+    if !is_pair(tickets, papers, reviewers, pair) {
         return false;
     }
     if e == 0 {
@@ -138,12 +138,17 @@ fn is_next_pair(papers: usize, reviewers: usize, pairs: &[RulePair], e: usize) -
     pairs[e - 1].is_before(pair)
 }
 
-pub(crate) fn pair_fault(papers: usize, reviewers: usize, pairs: &[RulePair]) -> Option<u32>
-    ensures fault { IfSome result (λ place. IsFirstFault (λ n. ArePairs papers reviewers (take n pairs.now)) (length pairs.now) place) }
-    ensures none { IsNone result ↔ ArePairs papers reviewers pairs.now }
+pub(crate) fn pair_fault(
+    tickets: u32,
+    papers: usize,
+    reviewers: usize,
+    pairs: &[RulePair],
+) -> Option<u32>
+    ensures fault { IfSome result (λ place. IsFirstFault (λ n. ArePairs tickets papers reviewers (take n pairs.now)) (length pairs.now) place) }
+    ensures none { IsNone result ↔ ArePairs tickets papers reviewers pairs.now }
 {
     for e in 0..pairs.len() {
-        if !is_next_pair(papers, reviewers, pairs, e) {
+        if !is_next_pair(tickets, papers, reviewers, pairs, e) {
             return Some(e as u32);
         }
     }

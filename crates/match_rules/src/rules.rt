@@ -14,6 +14,9 @@ use std::marker::Model;
 /// The greatest number of tickets that a lottery is split over.
 pub const MOST_TICKETS: u32 = 10_000;
 
+/// The number of tickets that the rules of every edition have.
+pub const RULES_TICKETS: u32 = MOST_TICKETS;
+
 /// The greatest number of papers.
 pub const MOST_PAPERS: u32 = 1_500;
 
@@ -168,8 +171,9 @@ pub enum RulesFault {
 }
 
 impl Rules {
-    // The rules of a limit and three lists, with the places of the locked pairs and the groups.
+    // The rules of a number of tickets, a limit and three lists, with the places of the locked pairs and the groups.
     pub(crate) fn of_parts(
+        tickets: u32,
         limit: u32,
         papers: Vec<RulePaper>,
         reviewers: Vec<RuleReviewer>,
@@ -177,13 +181,13 @@ impl Rules {
         locked: Vec<u32>,
         groups: GroupTable,
     ) -> Rules
-        requires rules { AreRules (rules_value limit papers.items reviewers.items pairs.items) }
-        requires locked { locked.items ≡ locked_places (rules_value limit papers.items reviewers.items pairs.items) }
-        requires groups { IsGroupTable (rules_value limit papers.items reviewers.items pairs.items) groups.of_pair.items groups.firsts.items }
-        ensures { result ≡ rules_value limit papers.items reviewers.items pairs.items }
+        requires rules { AreRules (rules_value tickets limit papers.items reviewers.items pairs.items) }
+        requires locked { locked.items ≡ locked_places (rules_value tickets limit papers.items reviewers.items pairs.items) }
+        requires groups { IsGroupTable (rules_value tickets limit papers.items reviewers.items pairs.items) groups.of_pair.items groups.firsts.items }
+        ensures { result ≡ rules_value tickets limit papers.items reviewers.items pairs.items }
     {
         Rules {
-            tickets: MOST_TICKETS,
+            tickets,
             limit,
             papers,
             reviewers,

@@ -4,4 +4,4 @@ use Rattle.match_rules.specs.NextRows.{IsNextPair}
 use Rattle.match_rules.proofs.parts.pair_fault.Given as goal
 
 abbrev pub invariant-loop-e : goal.invariant-loop-e
-invariant-loop-e l = ((q : ℕ) → q < l.e → IsNextPair l.papers l.reviewers l.pairs q) × (l.e ≤ MOST_PAIRS)
+invariant-loop-e l = ((q : ℕ) → q < l.e → IsNextPair l.tickets l.papers l.reviewers l.pairs q) × (l.e ≤ MOST_PAIRS)
