@@ -196,9 +196,7 @@ floor_held rules sieve lottery e are fits below =
       | false ↦ λ open_.
           elim (are.pairs.each e below).whole [
             | inl none ↦ rw none (omega arith)
-            | inr all ↦
-                let other : (pair_at rules e).floor ≡ rules.tickets = all ∙ sym are.tickets in
-                absurd (grind (arith, nat_tests))
+            | inr all ↦ absurd (grind (arith, nat_tests))
           ]
     ] refl
 
