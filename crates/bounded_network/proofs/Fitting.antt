@@ -49,9 +49,9 @@ tickets-network rules sieve are = network-of_small rules (ticket_spans rules sie
 pub rounded-network : (rules : RulesValue) (shares : List ℕ) (left : ℕ) → AreRules rules → 1 ≤ left → AreWords shares → IsNetwork (network_of rules (rounded_spans rules shares left))
 rounded-network rules shares left are some words = network-of_small rules (rounded_spans rules shares left) are (rounded-spans-small rules shares left are some words)
 
--- the amounts of the pairs of a circulation are numbers of tickets
+-- the amounts of the pairs of a circulation are at most all tickets
 pub circulation-small : (rules : RulesValue) (sieve : Sieve) (flow : List ℕ) (e : ℕ) → AreRules rules → IsCirculation (network_of rules (ticket_spans rules sieve)) flow
-    → e < length rules.pairs → slice_index flow e ≤ 10000
+    → e < length rules.pairs → slice_index flow e ≤ rules.tickets
 circulation-small rules sieve flow e are round lt =
     let cap = ((compiled rules (ticket_spans rules sieve) are).sound flow round).pairs e lt in
     omega (arith, cap.1, amount-in rules flow e lt, when-at_most (keeps rules sieve e) (pair_at rules e).cap, (are.pairs.each e lt).within)

@@ -1,5 +1,5 @@
 -- The network of rules is within the limits of a network.
-use Rattle.std.proofs.Common.{◌≡◌, ℕ, suc, ◌+◌, ◌-◌, ◌*◌, ◌/◌, ◌%◌, ◌<◌, ◌≤◌, ◌⊎◌, Bool, true, false, List, length, sym, ◌∙◌, arith, inl, inr}
+use Rattle.std.proofs.Common.{◌≡◌, ℕ, suc, ◌+◌, ◌-◌, ◌*◌, ◌/◌, ◌%◌, ◌<◌, ◌≤◌, ◌⊎◌, Bool, true, false, List, length, sym, arith, inl, inr}
 use Rattle.std.specs.Prelude.{neg_ℤ, ◌≤ℤ◌, ◌||◌, slice_index}
 use Rattle.std.proofs.lemmas.Int.{ints}
 use Rattle.std.proofs.lemmas.Bool.{eq-eqb}
@@ -90,12 +90,10 @@ floor-under rules sieve e are lt =
     let pair = are.pairs.each e lt in
     by pair.whole pair.ordered (lets_pass sieve (pair_at rules e).score)
   where
-    by : ((pair_at rules e).floor ≡ 0) ⊎ ((pair_at rules e).floor ≡ MOST_TICKETS) → (pair_at rules e).floor ≤ (pair_at rules e).cap → (b : Bool)
+    by : ((pair_at rules e).floor ≡ 0) ⊎ ((pair_at rules e).floor ≡ rules.tickets) → (pair_at rules e).floor ≤ (pair_at rules e).cap → (b : Bool)
         → (pair_at rules e).floor ≤ when (is_locked rules e || b) (pair_at rules e).cap
     by (inl none) h b = omega (arith, none)
-    by (inr all) h b =
-        let same : (pair_at rules e).floor ≡ rules.tickets = all ∙ sym are.tickets in
-        rw (eq-eqb (pair_at rules e).floor rules.tickets same) h
+    by (inr all) h b = rw (eq-eqb (pair_at rules e).floor rules.tickets all) h
 
 pub when-at_most : (b : Bool) (x : ℕ) → when b x ≤ x
 when-at_most true x = omega arith
@@ -109,7 +107,7 @@ scaled-ordered tickets x y is le = rw is (omega arith)
 
 pub tickets-small : (rules : RulesValue) (sieve : Sieve) → AreRules rules → AreSmall rules (ticket_spans rules sieve)
 tickets-small rules sieve are = record {
-  pairs = λ e lt. record { ordered = floor-under rules sieve e are lt; room = omega (arith, when-at_most (keeps rules sieve e) (pair_at rules e).cap, (are.pairs.each e lt).within) };
+  pairs = λ e lt. record { ordered = floor-under rules sieve e are lt; room = omega (arith, when-at_most (keeps rules sieve e) (pair_at rules e).cap, (are.pairs.each e lt).within, are.tickets) };
   papers = λ p lt. record { ordered = omega arith; room = scaled-small rules.tickets (paper_at rules p).demand are.tickets (omega (arith, are.papers.demands p lt)) };
   of_groups = λ g lt. record { ordered = omega arith; room = scaled-small rules.tickets rules.limit are.tickets are.limit.1 };
   reviewers = λ r lt. record {

@@ -6,7 +6,7 @@ use Rattle.std.specs.Str.{bytes_eq}
 use Rattle.std.proofs.lemmas.Int.{ints}
 use Rattle.std.proofs.lemmas.Str.{IsUtf8-from_ascii}
 use lib.Signed.{mag}
-use Rattle.match_rules.specs.declared.rules.TheConstants.{MOST_TICKETS}
+use Rattle.match_rules.specs.declared.rules.TheConstants.{RULES_TICKETS}
 use Rattle.match_rules.specs.Answers.{IsWithin, most_price, most_total}
 use Rattle.text_lines.specs.declared.lines.TheConstants.{LONGEST_LINE}
 use Rattle.text_lines.specs.declared.fault.LineCode.TheVariants.{Form}
@@ -92,15 +92,15 @@ price_spells = record {
 
 -- ---- shares
 
-pub share_spells : Spells {A = ℕ} (λ before. share_of) (λ before n. n ≤ MOST_TICKETS) decimal
+pub share_spells : Spells {A = ℕ} (λ before. share_of) (λ before n. n ≤ RULES_TICKETS) decimal
 unfolding share_of
 share_spells = record {
   sound = λ before line n e.
-      let a = bind_ok (in_form (one_of (fields line))) (number_from 0 MOST_TICKETS) n e in
-      let t = number_from_takes 0 MOST_TICKETS a.0 n (lit< tt) a.2 in
+      let a = bind_ok (in_form (one_of (fields line))) (number_from 0 RULES_TICKETS) n e in
+      let t = number_from_takes 0 RULES_TICKETS a.0 n (lit< tt) a.2 in
       (t.2, one_field_spell line a.0 a.1 ∙ t.0);
   complete = λ before n h.
-      rw (fields_one (decimal n) (number_word n (omega (arith, h)))) (number_from_again 0 MOST_TICKETS n (omega (arith, h)) (omega arith) h);
+      rw (fields_one (decimal n) (number_word n (omega (arith, h)))) (number_from_again 0 RULES_TICKETS n (omega (arith, h)) (omega arith) h);
   lines = λ before n h. line_one (decimal n) (number_word n (omega (arith, h))) (omega (arith, number_short n (omega (arith, h))));
 }
 

@@ -1,10 +1,10 @@
 -- Rules and an answer are read as they are spelled.
-use Rattle.std.proofs.Common.{◌≡◌, ℕ, List, [], ◌++◌, length, Option, Result, Ok, Err, refl, sym, ap, subst, ◌∙◌, arith}
+use Rattle.std.proofs.Common.{◌≡◌, ℕ, ◌≤◌, List, All, [], ◌++◌, length, Option, Result, Ok, Err, refl, sym, ap, subst, ◌∙◌, arith}
 use Rattle.std.proofs.lemmas.List.{append-nil, nil_from_length}
 use Rattle.std.proofs.lemmas.Bool.{eqb-true}
 use Rattle.match_rules.specs.declared.answer.Answer.{Answer}
 use Rattle.match_rules.specs.declared.answer.Answer.TheVariants.{Lottery, Infeasible}
-use Rattle.match_rules.specs.Answers.{AnswerMatches, LevelMatches}
+use Rattle.match_rules.specs.Answers.{AnswerMatches, LevelMatches, SharesMatch}
 use Rattle.match_rules.specs.Rules.{RulesValue, AreRules}
 use Rattle.match_rules.proofs.GroupLaws.{group_count_few}
 use Rattle.text_lines.specs.declared.fault.TextFault.{TextFault}
@@ -22,7 +22,7 @@ use Rattle.match_rules.specs.declared.sizes.Sizes.{Sizes}
 use Rattle.publication.specs.AnswerForms.{kind_of}
 use Rattle.publication.specs.AnswerReading.{answer_at, answer_behind, certificate_at, lottery_at}
 use Rattle.match_rules.specs.Sound.{sizes_of}
-use Rattle.publication.specs.Certificates.{IsAnswerFor, IsCertificate, IsSpelled, IsWholeAnswer, answer_text, certificate_text}
+use Rattle.publication.specs.Certificates.{AreSharesFor, IsAnswerFor, IsCertificate, IsSpelled, IsWholeAnswer, answer_text, certificate_text}
 use Rattle.publication.specs.InfeasibleReading.{infeasible_at}
 use Rattle.publication.specs.RulesReading.{rules_at}
 use Rattle.publication.specs.RulesText.{rules_text}
@@ -41,15 +41,21 @@ sizes_small rules are = record {
 
 -- ---- an answer with lists of the sizes of the rules matches them
 
-matches_from : (rules : RulesValue) (answer : Answer) → IsWholeAnswer answer → IsAnswerFor (sizes_of rules) answer → AnswerMatches rules answer
-matches_from rules (Lottery winning) whole are = record {
+shares_from : (rules : RulesValue) (shares : List ℕ) → AreRules rules → AreSharesFor (sizes_of rules) shares → SharesMatch rules shares
+shares_from rules shares kept are = subst (λ (tickets : ℕ). (length shares ≡ length rules.pairs) × All (λ share. share ≤ tickets) shares) (sym kept.tickets) are
+
+shares_for : (rules : RulesValue) (shares : List ℕ) → AreRules rules → SharesMatch rules shares → AreSharesFor (sizes_of rules) shares
+shares_for rules shares kept matching = subst (λ (tickets : ℕ). (length shares ≡ length rules.pairs) × All (λ share. share ≤ tickets) shares) kept.tickets matching
+
+matches_from : (rules : RulesValue) (answer : Answer) → AreRules rules → IsWholeAnswer answer → IsAnswerFor (sizes_of rules) answer → AnswerMatches rules answer
+matches_from rules (Lottery winning) kept whole are = record {
   level = subst (λ l. LevelMatches rules l) (sym whole.level) tt;
   in_all = are.total;
   prices = record { papers = are.prices.papers; of_groups = are.prices.of_groups; reviewers = are.prices.reviewers };
-  shares = are.shares;
+  shares = shares_from rules winning.shares kept are.shares;
   pieces = are.pieces.1;
 }
-matches_from rules (Infeasible blocked) whole are = record { papers = are.marked.of_papers; of_groups = are.marked.of_groups; reviewers = are.marked.of_reviewers }
+matches_from rules (Infeasible blocked) kept whole are = record { papers = are.marked.of_papers; of_groups = are.marked.of_groups; reviewers = are.marked.of_reviewers }
 
 spelled_from : (sizes : Sizes) (answer : Answer) → IsAnswerFor sizes answer → IsSpelled answer
 spelled_from sizes (Lottery winning) are = are.pieces.0
@@ -59,18 +65,18 @@ pub certificate_from : (rules : RulesValue) (answer : Answer) → AreRules rules
 certificate_from rules answer kept whole are = record {
   rules_kept = kept;
   whole = whole;
-  matching = matches_from rules answer whole are;
+  matching = matches_from rules answer kept whole are;
   spelled = spelled_from (sizes_of rules) answer are;
 }
 
-answer_for : (rules : RulesValue) (answer : Answer) → AnswerMatches rules answer → IsSpelled answer → IsAnswerFor (sizes_of rules) answer
-answer_for rules (Lottery winning) matching spelled = record {
+answer_for : (rules : RulesValue) (answer : Answer) → AreRules rules → AnswerMatches rules answer → IsSpelled answer → IsAnswerFor (sizes_of rules) answer
+answer_for rules (Lottery winning) kept matching spelled = record {
   total = matching.in_all;
   prices = record { papers = matching.prices.papers; of_groups = matching.prices.of_groups; reviewers = matching.prices.reviewers };
-  shares = matching.shares;
+  shares = shares_for rules winning.shares kept matching.shares;
   pieces = (spelled, matching.pieces);
 }
-answer_for rules (Infeasible blocked) matching spelled = record {
+answer_for rules (Infeasible blocked) kept matching spelled = record {
   marked = record { of_papers = matching.papers; of_groups = matching.of_groups; of_reviewers = matching.reviewers };
   need = spelled.0;
   room = spelled.1;
@@ -138,7 +144,7 @@ pub certificate_again : (number : ℕ) (rules : RulesValue) (answer : Answer) �
 unfolding certificate_at certificate_text
 certificate_again number rules answer is =
     let first = rules_again rules number (answer_text answer) is.rules_kept in
-    let second = answer_again (sizes_of rules) first.0 answer [] (sizes_small rules is.rules_kept) is.whole (answer_for rules answer is.matching is.spelled) in
+    let second = answer_again (sizes_of rules) first.0 answer [] (sizes_small rules is.rules_kept) is.whole (answer_for rules answer is.rules_kept is.matching is.spelled) in
     let here : answer_at (sizes_of rules) (record { number = first.0; bytes = answer_text answer }) ≡ Ok (answer, record { number = second.0; bytes = [] }) = rw append-nil at second.1 in
     rw (first.1, here, end_ok (record { number = second.0; bytes = [] }) refl) refl
 

@@ -7,7 +7,7 @@ use Rattle.std.specs.Ordering.{is_lt, nat_cmp}
 use Rattle.std.proofs.lemmas.Bool.{ltb-true, lt-ltb, le-leb, and_from}
 use Rattle.std.proofs.lemmas.List.Sums.{AllPass-from_list_all, list_all-from_AllPass}
 use Rattle.match_rules.specs.declared.lottery.Piece.{Piece}
-use Rattle.match_rules.specs.declared.rules.TheConstants.{MOST_TICKETS}
+use Rattle.match_rules.specs.declared.rules.TheConstants.{MOST_TICKETS, RULES_TICKETS}
 use Rattle.match_rules.specs.Answers.{ArePrices, IsWithin, most_price}
 use Rattle.match_rules.specs.Pieces.{ArePieces, piece_at, no_piece}
 use Rattle.text_lines.specs.Reading.{AllFrom}
@@ -29,7 +29,7 @@ abbrev pub FitsPrice : List ℤ → ℤ → Type 0
 FitsPrice before z = IsWithin most_price z
 
 abbrev pub FitsShare : List ℕ → ℕ → Type 0
-FitsShare before n = n ≤ MOST_TICKETS
+FitsShare before n = n ≤ RULES_TICKETS
 
 pub prices_along : (count : ℕ) (zs : List ℤ) → count ≤ length zs → length zs ≤ count → AllAlong FitsPrice [] zs → ArePrices count zs
 prices_along count zs low high all = (omega arith, λ k d lt. along_at FitsPrice [] zs d k all lt)

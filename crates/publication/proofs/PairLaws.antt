@@ -5,7 +5,7 @@ use Rattle.std.specs.Fmt.{signed_decimal}
 use Rattle.std.proofs.lemmas.Bool.{ltb-true, lt-ltb, eqb-true, eq-eqb, or_cases, or_left, or_right, and_parts, and_from}
 use lib.Signed.{mag}
 use Rattle.match_rules.specs.declared.rules.RulePair.{RulePair}
-use Rattle.match_rules.specs.declared.rules.TheConstants.{MOST_TICKETS}
+use Rattle.match_rules.specs.declared.rules.TheConstants.{RULES_TICKETS}
 use Rattle.match_rules.specs.Rules.{ArePairs, IsPair, IsPairBefore, pair_in, no_pair, most_score}
 use Rattle.text_lines.specs.declared.fault.LineCode.{LineCode}
 use Rattle.text_lines.specs.declared.fault.LineCode.TheVariants.{Number, Range, Order}
@@ -23,7 +23,7 @@ use Rattle.publication.proofs.LastLaws.{behind_at, behind_each}
 
 -- a pair that may stand behind these
 pub record FitsPair (papers reviewers : ℕ) (before : List RulePair) (pair : RulePair) : Type 0 where
-  pub is : IsPair papers reviewers pair
+  pub is : IsPair RULES_TICKETS papers reviewers pair
   pub order : is_pair_behind before pair ≡ true
 
 place_takes : (count : ℕ) (field : List ℕ) (place : ℕ) → count < 2 ^ 64 → place_of count field ≡ Ok place → (field ≡ decimal place) × (place < count)
@@ -59,30 +59,30 @@ places_again papers reviewers paper reviewer small few p r = rw (place_again pap
 record AreTickets (floor cap : List ℕ) (tickets : ℕ × ℕ) : Type 0 where
   floor_text : floor ≡ decimal tickets.0
   cap_text : cap ≡ decimal tickets.1
-  whole : (tickets.0 ≡ 0) ⊎ (tickets.0 ≡ MOST_TICKETS)
+  whole : (tickets.0 ≡ 0) ⊎ (tickets.0 ≡ RULES_TICKETS)
   ordered : tickets.0 ≤ tickets.1
-  within : tickets.1 ≤ MOST_TICKETS
+  within : tickets.1 ≤ RULES_TICKETS
 
-whole_from : (n : ℕ) → (eqb n 0 || eqb n MOST_TICKETS) ≡ true → (n ≡ 0) ⊎ (n ≡ MOST_TICKETS)
-whole_from n e = elim (or_cases (eqb n 0) (eqb n MOST_TICKETS) e) [ inl none ↦ inl (eqb-true n 0 none) | inr all ↦ inr (eqb-true n MOST_TICKETS all) ]
+whole_from : (n : ℕ) → (eqb n 0 || eqb n RULES_TICKETS) ≡ true → (n ≡ 0) ⊎ (n ≡ RULES_TICKETS)
+whole_from n e = elim (or_cases (eqb n 0) (eqb n RULES_TICKETS) e) [ inl none ↦ inl (eqb-true n 0 none) | inr all ↦ inr (eqb-true n RULES_TICKETS all) ]
 
-whole_test : (n : ℕ) → (n ≡ 0) ⊎ (n ≡ MOST_TICKETS) → (eqb n 0 || eqb n MOST_TICKETS) ≡ true
-whole_test n (inl none) = or_left (eqb n 0) (eqb n MOST_TICKETS) (eq-eqb n 0 none)
-whole_test n (inr all) = or_right (eqb n 0) (eqb n MOST_TICKETS) (eq-eqb n MOST_TICKETS all)
+whole_test : (n : ℕ) → (n ≡ 0) ⊎ (n ≡ RULES_TICKETS) → (eqb n 0 || eqb n RULES_TICKETS) ≡ true
+whole_test n (inl none) = or_left (eqb n 0) (eqb n RULES_TICKETS) (eq-eqb n 0 none)
+whole_test n (inr all) = or_right (eqb n 0) (eqb n RULES_TICKETS) (eq-eqb n RULES_TICKETS all)
 
 tickets_take : (floor cap : List ℕ) (tickets : ℕ × ℕ) → tickets_of floor cap ≡ Ok tickets → AreTickets floor cap tickets
 tickets_take floor cap tickets e =
-    let a = bind_ok (number_from 0 MOST_TICKETS cap) (λ most. number_from 0 most floor >>= λ least. needs (eqb least 0 || eqb least MOST_TICKETS) Range >>= λ _. Ok (least, most)) tickets e in
-    let b = bind_ok (number_from 0 a.0 floor) (λ least. needs (eqb least 0 || eqb least MOST_TICKETS) Range >>= λ _. Ok (least, a.0)) tickets a.2 in
-    let c = needs_ok (eqb b.0 0 || eqb b.0 MOST_TICKETS) Range (Ok (b.0, a.0)) tickets b.2 in
-    let most = number_from_takes 0 MOST_TICKETS cap a.0 (lit< tt) a.1 in
+    let a = bind_ok (number_from 0 RULES_TICKETS cap) (λ most. number_from 0 most floor >>= λ least. needs (eqb least 0 || eqb least RULES_TICKETS) Range >>= λ _. Ok (least, most)) tickets e in
+    let b = bind_ok (number_from 0 a.0 floor) (λ least. needs (eqb least 0 || eqb least RULES_TICKETS) Range >>= λ _. Ok (least, a.0)) tickets a.2 in
+    let c = needs_ok (eqb b.0 0 || eqb b.0 RULES_TICKETS) Range (Ok (b.0, a.0)) tickets b.2 in
+    let most = number_from_takes 0 RULES_TICKETS cap a.0 (lit< tt) a.1 in
     let least = number_from_takes 0 a.0 floor b.0 (omega (arith, most.2)) b.1 in
     let same : (b.0, a.0) ≡ tickets = ok_is {E = LineCode} (b.0, a.0) tickets c.1 in
     subst (λ (t : ℕ × ℕ). AreTickets floor cap t) same (record { floor_text = least.0; cap_text = most.0; whole = whole_from b.0 c.0; ordered = least.2; within = most.2 })
 
-tickets_again : (floor cap : ℕ) → (floor ≡ 0) ⊎ (floor ≡ MOST_TICKETS) → floor ≤ cap → cap ≤ MOST_TICKETS → tickets_of (decimal floor) (decimal cap) ≡ Ok (floor, cap)
+tickets_again : (floor cap : ℕ) → (floor ≡ 0) ⊎ (floor ≡ RULES_TICKETS) → floor ≤ cap → cap ≤ RULES_TICKETS → tickets_of (decimal floor) (decimal cap) ≡ Ok (floor, cap)
 tickets_again floor cap whole ordered within =
-    rw (number_from_again 0 MOST_TICKETS cap (omega arith) (omega arith) within, number_from_again 0 cap floor (omega arith) (omega arith) ordered, whole_test floor whole) refl
+    rw (number_from_again 0 RULES_TICKETS cap (omega arith) (omega arith) within, number_from_again 0 cap floor (omega arith) (omega arith) ordered, whole_test floor whole) refl
 
 spelled_five : (line a b c d e p q r s t : List ℕ) → line ≡ with_spaces (a ∷ b ∷ c ∷ d ∷ e ∷ []) → a ≡ p → b ≡ q → c ≡ r → d ≡ s → e ≡ t → line ≡ with_spaces (p ∷ q ∷ r ∷ s ∷ t ∷ [])
 spelled_five line a b c d e p q r s t h u v w x y = h ∙ rw (u, v, w, x, y) refl
@@ -92,7 +92,7 @@ words_of pair = decimal pair.paper ∷ decimal pair.reviewer ∷ signed_decimal 
 
 -- a pair of five fields
 record IsRanged (papers reviewers : ℕ) (f : List ℕ × List ℕ × List ℕ × List ℕ × List ℕ) (pair : RulePair) : Type 0 where
-  is : IsPair papers reviewers pair
+  is : IsPair RULES_TICKETS papers reviewers pair
   texts : (f.0 ≡ decimal pair.paper) × (f.1 ≡ decimal pair.reviewer) × (f.2 ≡ signed_decimal pair.score) × (f.3 ≡ decimal pair.floor) × (f.4 ≡ decimal pair.cap)
 
 ranged_takes : (papers reviewers : ℕ) (f : List ℕ × List ℕ × List ℕ × List ℕ × List ℕ) (pair : RulePair) → papers < 2 ^ 64 → reviewers < 2 ^ 64 → ranged_of papers reviewers f ≡ Ok pair → IsRanged papers reviewers f pair
@@ -135,7 +135,7 @@ record IsSmall (pair : RulePair) : Type 0 where
   floor : pair.floor < 2 ^ 64
   cap : pair.cap < 2 ^ 64
 
-is_small : (papers reviewers : ℕ) (pair : RulePair) → papers < 2 ^ 64 → reviewers < 2 ^ 64 → IsPair papers reviewers pair → IsSmall pair
+is_small : (papers reviewers : ℕ) (pair : RulePair) → papers < 2 ^ 64 → reviewers < 2 ^ 64 → IsPair RULES_TICKETS papers reviewers pair → IsSmall pair
 is_small papers reviewers pair small few is =
     let abs = abs_from pair.score most_score is.low is.high in
     record {
@@ -197,7 +197,7 @@ before_test : (a b : RulePair) → IsPairBefore a b → is_before a b ≡ true
 before_test a b (inl less) = or_left (ltb a.paper b.paper) (eqb a.paper b.paper && ltb a.reviewer b.reviewer) (lt-ltb a.paper b.paper less)
 before_test a b (inr same) = or_right (ltb a.paper b.paper) (eqb a.paper b.paper && ltb a.reviewer b.reviewer) (and_from (eqb a.paper b.paper) (ltb a.reviewer b.reviewer) (eq-eqb a.paper b.paper same.0) (lt-ltb a.reviewer b.reviewer same.1))
 
-pub pairs_are : (papers reviewers : ℕ) (pairs : List RulePair) → length pairs ≤ 250000 → AllAlong (FitsPair papers reviewers) [] pairs → ArePairs papers reviewers pairs
+pub pairs_are : (papers reviewers : ℕ) (pairs : List RulePair) → length pairs ≤ 250000 → AllAlong (FitsPair papers reviewers) [] pairs → ArePairs RULES_TICKETS papers reviewers pairs
 pairs_are papers reviewers pairs few all =
     let at = along_at (FitsPair papers reviewers) [] pairs no_pair in
     record {
@@ -206,7 +206,7 @@ pairs_are papers reviewers pairs few all =
       ascending = λ e lt. before_from (pair_in pairs e) (pair_in pairs (e + 1)) (sym (behind_at is_before pairs e no_pair (omega arith)) ∙ (at (e + 1) all lt).order);
     }
 
-pub pairs_along : (papers reviewers : ℕ) (pairs : List RulePair) → ArePairs papers reviewers pairs → AllAlong (FitsPair papers reviewers) [] pairs
+pub pairs_along : (papers reviewers : ℕ) (pairs : List RulePair) → ArePairs RULES_TICKETS papers reviewers pairs → AllAlong (FitsPair papers reviewers) [] pairs
 pairs_along papers reviewers pairs are = along_from_at (FitsPair papers reviewers) [] pairs no_pair (λ k lt. record {
   is = are.each k lt;
   order = behind_each is_before pairs no_pair (λ j less. before_test (pair_in pairs j) (pair_in pairs (j + 1)) (are.ascending j less)) k lt;

@@ -5,8 +5,8 @@ use Rattle.std.specs.Fmt.{digits}
 use Rattle.match_rules.specs.declared.rules.RulePaper.{RulePaper}
 use Rattle.match_rules.specs.declared.rules.RuleReviewer.{RuleReviewer}
 use Rattle.match_rules.specs.declared.rules.RulePair.{RulePair}
-use Rattle.match_rules.specs.declared.rules.TheConstants.{MOST_TICKETS}
-use Rattle.match_rules.specs.Rules.{RulesValue, AreRules, IsLimit, rules_value}
+use Rattle.match_rules.specs.declared.rules.TheConstants.{RULES_TICKETS}
+use Rattle.match_rules.specs.Rules.{RulesValue, AreRules, ArePairs, IsLimit, rules_value}
 use Rattle.text_lines.specs.declared.fault.TextFault.{TextFault}
 use Rattle.text_lines.specs.Fields.{with_spaces}
 use Rattle.text_lines.specs.Forms.{fixed, number_after, count_line, section_at, section_text}
@@ -26,7 +26,7 @@ use Rattle.publication.proofs.PairLaws.{FitsPair, pair_spells, pairs_are, pairs_
 pub seam : (a b c x y : List ℕ) → a ≡ x ++ b → b ≡ y ++ c → a ≡ (x ++ y) ++ c
 seam a b c x y p q = p ∙ ap (λ (t : List ℕ). x ++ t) q ∙ sym (append_assoc x y c)
 
-tickets_line : codes "tickets 10000" ≡ count_line (codes "tickets") MOST_TICKETS
+tickets_line : codes "tickets 10000" ≡ count_line (codes "tickets") RULES_TICKETS
 unfolding count_line with_spaces digits
 tickets_line = refl
 
@@ -44,7 +44,7 @@ limit_word = ascii_word (codes "limit") refl refl refl
 
 -- ---- the head
 
-pub head_takes : (at rest : Cursor) (limit : ℕ) → head_at at ≡ Ok (limit, rest) → IsLimit limit × (at.bytes ≡ head_text MOST_TICKETS limit ++ rest.bytes)
+pub head_takes : (at rest : Cursor) (limit : ℕ) → head_at at ≡ Ok (limit, rest) → IsLimit limit × (at.bytes ≡ head_text RULES_TICKETS limit ++ rest.bytes)
 unfolding head_at head_text
 head_takes at rest limit e =
     let a = bind_ok (due (fixed (codes "rules 1")) at) (λ kind. due (fixed (codes "tickets 10000")) kind.1 >>= λ tickets. due (number_after (codes "limit") 1 1500) tickets.1) (limit, rest) e in
@@ -52,10 +52,10 @@ head_takes at rest limit e =
     let kind = item_takes _ _ _ (fixed_spells (codes "rules 1") kind_line) [] at a.0.1 a.0.0 a.1 in
     let tickets = item_takes _ _ _ (fixed_spells (codes "tickets 10000") tickets_is) [] a.0.1 b.0.1 b.0.0 b.1 in
     let last = item_takes _ _ _ (number_after_spells (codes "limit") 1 1500 limit_word (lit≤ tt) (lit< tt)) [] b.0.1 rest limit b.2 in
-    let second : a.0.1.bytes ≡ line_of (count_line (codes "tickets") MOST_TICKETS) ++ b.0.1.bytes = tickets.1 ∙ ap (λ (t : List ℕ). line_of t ++ b.0.1.bytes) tickets_line in
-    (last.0, seam at.bytes a.0.1.bytes rest.bytes (line_of (codes "rules 1")) _ kind.1 (seam a.0.1.bytes b.0.1.bytes rest.bytes (line_of (count_line (codes "tickets") MOST_TICKETS)) _ second last.1))
+    let second : a.0.1.bytes ≡ line_of (count_line (codes "tickets") RULES_TICKETS) ++ b.0.1.bytes = tickets.1 ∙ ap (λ (t : List ℕ). line_of t ++ b.0.1.bytes) tickets_line in
+    (last.0, seam at.bytes a.0.1.bytes rest.bytes (line_of (codes "rules 1")) _ kind.1 (seam a.0.1.bytes b.0.1.bytes rest.bytes (line_of (count_line (codes "tickets") RULES_TICKETS)) _ second last.1))
 
-pub head_again : (limit number : ℕ) (rest : List ℕ) → IsLimit limit → (m : ℕ) × (head_at (record { number = number; bytes = head_text MOST_TICKETS limit ++ rest }) ≡ Ok (limit, record { number = m; bytes = rest }))
+pub head_again : (limit number : ℕ) (rest : List ℕ) → IsLimit limit → (m : ℕ) × (head_at (record { number = number; bytes = head_text RULES_TICKETS limit ++ rest }) ≡ Ok (limit, record { number = m; bytes = rest }))
 unfolding head_at head_text
 head_again limit number rest is =
     let limit_text = line_of (count_line (codes "limit") limit) in
@@ -63,8 +63,8 @@ head_again limit number rest is =
     let kind = item_again _ _ _ (fixed_spells (codes "rules 1") kind_line) [] number (tickets_text ++ (limit_text ++ rest)) tt tt in
     let tickets = item_again _ _ _ (fixed_spells (codes "tickets 10000") tickets_is) [] (following number) (limit_text ++ rest) tt tt in
     let last = item_again _ _ _ (number_after_spells (codes "limit") 1 1500 limit_word (lit≤ tt) (lit< tt)) [] (following (following number)) rest limit is in
-    let regrouped : (line_of (codes "rules 1") ++ (line_of (count_line (codes "tickets") MOST_TICKETS) ++ limit_text)) ++ rest ≡ line_of (codes "rules 1") ++ (tickets_text ++ (limit_text ++ rest)) =
-    append_assoc (line_of (codes "rules 1")) (line_of (count_line (codes "tickets") MOST_TICKETS) ++ limit_text) rest ∙ ap (λ (t : List ℕ). line_of (codes "rules 1") ++ t) (append_assoc (line_of (count_line (codes "tickets") MOST_TICKETS)) limit_text rest ∙ ap (λ (t : List ℕ). line_of t ++ (limit_text ++ rest)) (sym tickets_line)) in
+    let regrouped : (line_of (codes "rules 1") ++ (line_of (count_line (codes "tickets") RULES_TICKETS) ++ limit_text)) ++ rest ≡ line_of (codes "rules 1") ++ (tickets_text ++ (limit_text ++ rest)) =
+    append_assoc (line_of (codes "rules 1")) (line_of (count_line (codes "tickets") RULES_TICKETS) ++ limit_text) rest ∙ ap (λ (t : List ℕ). line_of (codes "rules 1") ++ t) (append_assoc (line_of (count_line (codes "tickets") RULES_TICKETS)) limit_text rest ∙ ap (λ (t : List ℕ). line_of t ++ (limit_text ++ rest)) (sym tickets_line)) in
     (following (following (following number)), rw (regrouped, kind, tickets) last)
 
 -- ---- the lists
@@ -115,26 +115,28 @@ lists_again ps rs es number rest are =
 pub rules_takes : (at rest : Cursor) (rules : RulesValue) → rules_at at ≡ Ok (rules, rest) → AreRules rules × (at.bytes ≡ rules_text rules ++ rest.bytes)
 unfolding rules_at rules_text
 rules_takes at rest rules e =
-    let a = bind_ok (head_at at) (λ limit. lists_at limit.1 >>= λ lists. due (fixed (codes "end rules")) lists.1 >>= λ end. Ok (rules_value limit.0 lists.0.0 lists.0.1 lists.0.2, end.1)) (rules, rest) e in
-    let b = bind_ok (lists_at a.0.1) (λ lists. due (fixed (codes "end rules")) lists.1 >>= λ end. Ok (rules_value a.0.0 lists.0.0 lists.0.1 lists.0.2, end.1)) (rules, rest) a.2 in
-    let c = bind_ok (due (fixed (codes "end rules")) b.0.1) (λ end. Ok (rules_value a.0.0 b.0.0.0 b.0.0.1 b.0.0.2, end.1)) (rules, rest) b.2 in
+    let a = bind_ok (head_at at) (λ limit. lists_at limit.1 >>= λ lists. due (fixed (codes "end rules")) lists.1 >>= λ end. Ok (rules_value RULES_TICKETS limit.0 lists.0.0 lists.0.1 lists.0.2, end.1)) (rules, rest) e in
+    let b = bind_ok (lists_at a.0.1) (λ lists. due (fixed (codes "end rules")) lists.1 >>= λ end. Ok (rules_value RULES_TICKETS a.0.0 lists.0.0 lists.0.1 lists.0.2, end.1)) (rules, rest) a.2 in
+    let c = bind_ok (due (fixed (codes "end rules")) b.0.1) (λ end. Ok (rules_value RULES_TICKETS a.0.0 b.0.0.0 b.0.0.1 b.0.0.2, end.1)) (rules, rest) b.2 in
     let head = head_takes at a.0.1 a.0.0 a.1 in
     let lists = lists_takes a.0.1 b.0.1 b.0.0.0 b.0.0.1 b.0.0.2 b.1 in
     let end = item_takes _ _ _ (fixed_spells (codes "end rules") end_line) [] b.0.1 c.0.1 c.0.0 c.1 in
-    let made = rules_value a.0.0 b.0.0.0 b.0.0.1 b.0.0.2 in
+    let made = rules_value RULES_TICKETS a.0.0 b.0.0.0 b.0.0.1 b.0.0.2 in
     let are : AreRules made = record { tickets = refl; limit = head.0; papers = lists.0.papers; reviewers = lists.0.reviewers; pairs = lists.0.pairs } in
-    let text = seam at.bytes a.0.1.bytes c.0.1.bytes (head_text MOST_TICKETS a.0.0) _ head.1 (seam a.0.1.bytes b.0.1.bytes c.0.1.bytes (lists_text b.0.0.0 b.0.0.1 b.0.0.2) _ lists.1 end.1) in
+    let text = seam at.bytes a.0.1.bytes c.0.1.bytes (head_text RULES_TICKETS a.0.0) _ head.1 (seam a.0.1.bytes b.0.1.bytes c.0.1.bytes (lists_text b.0.0.0 b.0.0.1 b.0.0.2) _ lists.1 end.1) in
     let same = ok_is {E = TextFault} (made, c.0.1) (rules, rest) c.2 in
     subst (λ (x : RulesValue × Cursor). AreRules x.0 × (at.bytes ≡ (head_text x.0.tickets x.0.limit ++ (lists_text x.0.papers x.0.reviewers x.0.pairs ++ line_of (codes "end rules"))) ++ x.1.bytes)) same (are, text)
 
 pub rules_again : (rules : RulesValue) (number : ℕ) (rest : List ℕ) → AreRules rules → (m : ℕ) × (rules_at (record { number = number; bytes = rules_text rules ++ rest }) ≡ Ok (rules, record { number = m; bytes = rest }))
 unfolding rules_at rules_text
 rules_again rules number rest are =
-    let h = head_text MOST_TICKETS rules.limit in
+    let h = head_text RULES_TICKETS rules.limit in
     let l = lists_text rules.papers rules.reviewers rules.pairs in
     let z = line_of (codes "end rules") in
+    let pairs : ArePairs RULES_TICKETS (length rules.papers) (length rules.reviewers) rules.pairs =
+    subst (λ (tickets : ℕ). ArePairs tickets (length rules.papers) (length rules.reviewers) rules.pairs) are.tickets are.pairs in
     let head = head_again rules.limit number (l ++ (z ++ rest)) are.limit in
-    let lists = lists_again rules.papers rules.reviewers rules.pairs head.0 (z ++ rest) (record { papers = are.papers; reviewers = are.reviewers; pairs = are.pairs }) in
+    let lists = lists_again rules.papers rules.reviewers rules.pairs head.0 (z ++ rest) (record { papers = are.papers; reviewers = are.reviewers; pairs = pairs }) in
     let end = item_again _ _ _ (fixed_spells (codes "end rules") end_line) [] lists.0 rest tt tt in
     let regrouped : (h ++ (l ++ z)) ++ rest ≡ h ++ (l ++ (z ++ rest)) = append_assoc h (l ++ z) rest ∙ ap (λ (t : List ℕ). h ++ t) (append_assoc l z rest) in
     (following lists.0, rw (are.tickets, regrouped, head.1, lists.1, end) refl)

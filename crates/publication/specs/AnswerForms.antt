@@ -7,7 +7,7 @@ use Rattle.std.specs.Option.{option_map_or}
 use Rattle.std.specs.Ordering.{nat_cmp, is_lt}
 use Rattle.std.specs.Str.{bytes_eq}
 use Rattle.match_rules.specs.declared.lottery.Piece.{Piece}
-use Rattle.match_rules.specs.declared.rules.TheConstants.{MOST_TICKETS}
+use Rattle.match_rules.specs.declared.rules.TheConstants.{MOST_TICKETS, RULES_TICKETS}
 use Rattle.match_rules.specs.Answers.{most_price, most_total}
 use Rattle.text_lines.specs.declared.fault.LineCode.{LineCode}
 use Rattle.text_lines.specs.declared.fault.LineCode.TheVariants.{Form, Number, Range, Order}
@@ -32,7 +32,7 @@ price_of line = do
 unfoldable pub share_of : List ℕ → Result ℕ LineCode
 share_of line = do
   field ← in_form (one_of (fields line))
-  number_from 0 MOST_TICKETS field
+  number_from 0 RULES_TICKETS field
 
 -- the line of the total
 abbrev pub total_in : List ℕ × List ℕ → Result ℤ LineCode

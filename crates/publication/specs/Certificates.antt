@@ -8,7 +8,7 @@ use Rattle.match_rules.specs.declared.answer.Mode.TheVariants.{Whole}
 use Rattle.match_rules.specs.declared.answer.Prices.{Prices}
 use Rattle.match_rules.specs.declared.answer.Winning.{Winning}
 use Rattle.match_rules.specs.declared.lottery.Piece.{Piece}
-use Rattle.match_rules.specs.declared.rules.TheConstants.{MOST_TICKETS}
+use Rattle.match_rules.specs.declared.rules.TheConstants.{RULES_TICKETS}
 use Rattle.match_rules.specs.Answers.{AnswerMatches, AreMarks, ArePrices, IsWithin, most_total}
 use Rattle.match_rules.specs.Pieces.{ArePieces}
 use Rattle.match_rules.specs.Rules.{RulesValue, AreRules}
@@ -29,7 +29,7 @@ pub record ArePricesFor (sizes : Sizes) (prices : Prices) : Type 0 where
 
 -- one share for each pair
 abbrev pub AreSharesFor : Sizes → List ℕ → Type 0
-AreSharesFor sizes shares = (length shares ≡ sizes.pairs) × All (λ share. share ≤ MOST_TICKETS) shares
+AreSharesFor sizes shares = (length shares ≡ sizes.pairs) × All (λ share. share ≤ RULES_TICKETS) shares
 
 -- the pieces of a lottery, with places of pairs that there are
 abbrev pub ArePiecesFor : Sizes → List Piece → Type 0

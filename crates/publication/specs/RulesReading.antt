@@ -5,7 +5,7 @@ use Rattle.std.specs.Ordering.{is_lt}
 use Rattle.match_rules.specs.declared.rules.RulePaper.{RulePaper}
 use Rattle.match_rules.specs.declared.rules.RuleReviewer.{RuleReviewer}
 use Rattle.match_rules.specs.declared.rules.RulePair.{RulePair}
-use Rattle.match_rules.specs.declared.rules.TheConstants.{MOST_TICKETS, MOST_PAPERS, MOST_REVIEWERS, MOST_PAIRS, MOST_DEMAND, MOST_DEMAND_IN_ALL, MOST_LOAD, MOST_LIMIT}
+use Rattle.match_rules.specs.declared.rules.TheConstants.{RULES_TICKETS, MOST_PAPERS, MOST_REVIEWERS, MOST_PAIRS, MOST_DEMAND, MOST_DEMAND_IN_ALL, MOST_LOAD, MOST_LIMIT}
 use Rattle.match_rules.specs.Id.{is_id, is_institution}
 use Rattle.match_rules.specs.Rules.{RulesValue, rules_value, demand_total, id_cmp, most_score}
 use Rattle.text_lines.specs.declared.fault.LineCode.{LineCode}
@@ -124,9 +124,9 @@ places_of papers reviewers paper reviewer = do
 -- a floor of none or all tickets, and a cap from the floor to all tickets
 abbrev pub tickets_of : List ℕ → List ℕ → Result (ℕ × ℕ) LineCode
 tickets_of floor cap = do
-  most ← number_from 0 MOST_TICKETS cap
+  most ← number_from 0 RULES_TICKETS cap
   least ← number_from 0 most floor
-  whole ← needs (least == 0 || least == MOST_TICKETS) Range
+  whole ← needs (least == 0 || least == RULES_TICKETS) Range
   Ok (least, most)
 
 abbrev pub are_numbers : List ℕ × List ℕ × List ℕ × List ℕ × List ℕ → Bool
@@ -172,4 +172,4 @@ rules_at at = do
   limit ← head_at at
   lists ← lists_at limit.1
   end ← due (fixed (codes "end rules")) lists.1
-  Ok (rules_value limit.0 lists.0.0 lists.0.1 lists.0.2, end.1)
+  Ok (rules_value RULES_TICKETS limit.0 lists.0.0 lists.0.1 lists.0.2, end.1)

@@ -3,7 +3,7 @@ ghost use Rattle.std.specs.Prelude.{◌≡◌, ◌<◌, ◌≤◌, ◌^◌, ◌&
 ghost use Rattle.text_lines.specs.Reading.{GivesLine};
 ghost use Rattle.publication.specs.AnswerForms.{kind_of, price_of, share_of, total_of};
 
-use match_rules::{MOST_PRICE, MOST_TICKETS, MOST_TOTAL};
+use match_rules::{MOST_PRICE, MOST_TOTAL, RULES_TICKETS};
 use std::alloc::Global;
 use text_lines::{LineCode, LineError, LineForm, integer_from, number_from, one_field, two_fields};
 
@@ -42,7 +42,7 @@ fn share_of(line: &str) -> Result<u32, LineCode>
     ensures { result ≡ share_of line.now }
 {
     match one_field(line) {
-        Some(field) => number_from(field, 0, MOST_TICKETS),
+        Some(field) => number_from(field, 0, RULES_TICKETS),
         None => Err(LineCode::Form),
     }
 }

@@ -2,7 +2,7 @@
 ghost use Rattle.std.specs.Prelude.{◌≡◌, ◌&&◌, List, Result, Ok};
 ghost use Rattle.publication.specs.RulesReading.{are_numbers, is_pair_behind, pair_of, place_of, places_of, ranged_of, tickets_of};
 
-use match_rules::{MOST_SCORE, MOST_TICKETS, RulePair};
+use match_rules::{MOST_SCORE, RULES_TICKETS, RulePair};
 use std::alloc::Global;
 use text_lines::{
     LineCode, LineError, LineForm, five_fields, integer_from, is_canonical, is_canonical_signed,
@@ -102,9 +102,9 @@ fn read_places(
 fn read_tickets(floor: &str, cap: &str) -> Result<(u32, u32), LineCode>
     ensures { result ≡ tickets_of floor.now cap.now }
 {
-    let cap = number_from(cap, 0, MOST_TICKETS)?;
+    let cap = number_from(cap, 0, RULES_TICKETS)?;
     let floor = number_from(floor, 0, cap)?;
-    if floor == 0 || floor == MOST_TICKETS {
+    if floor == 0 || floor == RULES_TICKETS {
         Ok((floor, cap))
     } else {
         Err(LineCode::Range)

@@ -11,7 +11,8 @@ use crate::paper_form::PaperForm;
 use crate::reviewer_form::ReviewerForm;
 use edge_io::Source;
 use match_rules::{
-    MOST_LIMIT, MOST_PAIRS, MOST_PAPERS, MOST_REVIEWERS, RulePair, RulePaper, RuleReviewer, Rules,
+    MOST_LIMIT, MOST_PAIRS, MOST_PAPERS, MOST_REVIEWERS, RULES_TICKETS, RulePair, RulePaper,
+    RuleReviewer, Rules,
 };
 use std::alloc::Global;
 use text_lines::{Lines, ReadError, read_count, read_section, read_words};
@@ -94,5 +95,12 @@ pub fn read_rules<S: Source>(
     let limit = read_head(alloc, lines, source)?;
     let lists = read_lists(alloc, lines, source)?;
     read_words(alloc, lines, source, "end rules")?;
-    Ok(Rules::of_tested(alloc, limit, lists.papers, lists.reviewers, lists.pairs)?)
+    Ok(Rules::of_tested(
+        alloc,
+        RULES_TICKETS,
+        limit,
+        lists.papers,
+        lists.reviewers,
+        lists.pairs,
+    )?)
 }

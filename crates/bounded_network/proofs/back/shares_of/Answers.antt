@@ -16,7 +16,7 @@ pub overflow_cast-flow : goal.overflow_cast-flow
 overflow_cast-flow c =
     let all : RulesValue = c.args.rules.now in
     let below : c.loop-e.e < length all.pairs = omega (arith, c.pairs-count.ensures.len) in
-    omega (arith, circulation-small all c.args.sieve c.args.flow.now c.loop-e.e c.pairs-count.ensures.kept c.requires below)
+    omega (arith, circulation-small all c.args.sieve c.args.flow.now c.loop-e.e c.pairs-count.ensures.kept c.requires below, c.pairs-count.ensures.kept.tickets)
 
 pub loop-e-preserved : goal.loop-e-preserved
 loop-e-preserved c =
