@@ -2,6 +2,7 @@
 use Rattle.std.specs.Prelude.{ℕ, List, [], ◌∷◌, codes, Option, Some, None, ℤ, pos}
 use Rattle.match_rules.specs.Rules.{RulesValue, rules_value}
 use Rattle.match_rules.specs.declared.rules.RulePair.{RulePair}
+use Rattle.match_rules.specs.declared.rules.TheConstants.{RULES_TICKETS}
 use Rattle.match_rules.specs.declared.rules.RuleReviewer.{RuleReviewer}
 use Rattle.roster.specs.declared.rows.PaperRow.{PaperRow}
 use Rattle.roster.specs.declared.rows.ReviewerRow.{ReviewerRow}
@@ -37,7 +38,7 @@ abbrev pub rule_reviewer : List ℕ → RuleReviewer
 rule_reviewer id = record { id = id; institution = None; least = 0; greatest = 1 }
 
 abbrev pub small_rules : List RulePair → RulesValue
-small_rules pairs = rules_value 1500
+small_rules pairs = rules_value RULES_TICKETS 1500
     (record { id = codes "p"; demand = 1 } ∷ [])
     (rule_reviewer (codes "a") ∷ rule_reviewer (codes "b") ∷ rule_reviewer (codes "c") ∷ [])
     pairs

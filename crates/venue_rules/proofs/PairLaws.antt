@@ -2,6 +2,7 @@
 use Rattle.std.proofs.Common.{◌≡◌, ℕ, zero, suc, ◌+◌, ◌<◌, ◌≤◌, inl, inr, Bool, true, false, List, [], ◌∷◌, ◌++◌, length, get_or, All, refl, sym, ◌∙◌, arith}
 use Rattle.std.specs.Prelude.{if◌then◌else◌}
 use Rattle.match_rules.specs.declared.rules.RulePair.{RulePair}
+use Rattle.match_rules.specs.declared.rules.TheConstants.{RULES_TICKETS}
 use Rattle.match_rules.specs.Rules.{ArePairs, IsPairBefore, no_pair}
 use Rattle.roster.specs.declared.rows.PaperRow.{PaperRow}
 use Rattle.roster.specs.declared.rows.ReviewerRow.{ReviewerRow}
@@ -115,7 +116,7 @@ rise-at (p ∷ q ∷ ps) rise (suc e) d lt =
     rw one (rise-at (q ∷ ps) rise.1 e d (omega arith))
 
 pub are-pairs : (venue : VenueValue) (papers reviewers : ℕ) → papers ≡ length venue.papers → reviewers ≡ length venue.reviewers
-    → length (candidates venue) ≤ 250000 → All IsPair (candidates venue) → ArePairs papers reviewers (candidates venue)
+    → length (candidates venue) ≤ 250000 → All IsPair (candidates venue) → ArePairs RULES_TICKETS papers reviewers (candidates venue)
 unfolding candidates
 are-pairs venue papers reviewers m n few within =
     let pairs = pairs_from venue 0 venue.papers in

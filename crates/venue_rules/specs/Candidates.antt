@@ -5,7 +5,7 @@ use Rattle.std.specs.Option.{option_map_or}
 use Rattle.std.specs.Ordering.{int_eq}
 use Rattle.std.specs.Str.{bytes_eq}
 use Rattle.match_rules.specs.declared.rules.RulePair.{RulePair}
-use Rattle.match_rules.specs.declared.rules.TheConstants.{MOST_TICKETS}
+use Rattle.match_rules.specs.declared.rules.TheConstants.{RULES_TICKETS}
 use Rattle.roster.specs.declared.rows.PaperRow.{PaperRow}
 use Rattle.roster.specs.declared.rows.ReviewerRow.{ReviewerRow}
 use Rattle.score_spec.specs.Scores.{has_row, score_of}
@@ -41,8 +41,8 @@ pair_of venue i paper j reviewer = record {
   paper = i;
   reviewer = j;
   score = score_of venue.settings.spec venue.scores paper.id reviewer.id;
-  floor = if is_marked venue paper reviewer then MOST_TICKETS else 0;
-  cap = if is_marked venue paper reviewer then MOST_TICKETS else tickets_of (cap_of venue paper.id reviewer.id);
+  floor = if is_marked venue paper reviewer then RULES_TICKETS else 0;
+  cap = if is_marked venue paper reviewer then RULES_TICKETS else tickets_of (cap_of venue paper.id reviewer.id);
 }
 
 -- the pairs of a paper with the reviewers from place j on

@@ -1,7 +1,7 @@
 -- Candidate pairs as they are found.
 use Rattle.std.specs.Prelude.{◌≡◌, ℕ, ◌≤◌, ◌⊎◌, if◌then◌else◌, List, [], ◌∷◌, length, All, pos, neg_ℤ, ◌≤ℤ◌}
 use Rattle.match_rules.specs.declared.rules.RulePair.{RulePair}
-use Rattle.match_rules.specs.declared.rules.TheConstants.{MOST_PAIRS, MOST_TICKETS}
+use Rattle.match_rules.specs.declared.rules.TheConstants.{MOST_PAIRS, RULES_TICKETS}
 use Rattle.match_rules.specs.Rules.{most_score}
 use Rattle.roster.specs.declared.rows.PaperRow.{PaperRow}
 use Rattle.roster.specs.declared.rows.ReviewerRow.{ReviewerRow}
@@ -14,9 +14,9 @@ use Rattle.venue_rules.specs.Venues.{VenueValue}
 pub record IsPair (pair : RulePair) : Type 0 where
   pub low : neg_ℤ (pos most_score) ≤ℤ pair.score
   pub high : pair.score ≤ℤ pos most_score
-  pub whole : (pair.floor ≡ 0) ⊎ (pair.floor ≡ MOST_TICKETS)
+  pub whole : (pair.floor ≡ 0) ⊎ (pair.floor ≡ RULES_TICKETS)
   pub ordered : pair.floor ≤ pair.cap
-  pub within : pair.cap ≤ MOST_TICKETS
+  pub within : pair.cap ≤ RULES_TICKETS
 
 -- these pairs were found: all are counted, and kept while they aren't too many
 pub record AreFound (found : Found) (pairs : List RulePair) : Type 0 where

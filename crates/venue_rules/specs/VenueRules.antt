@@ -12,7 +12,7 @@ use Rattle.roster.specs.declared.rows.ReviewerRow.{ReviewerRow}
 use Rattle.score_spec.specs.PairTables.{PairsValue, Entry}
 use Rattle.venue_rules.specs.declared.fault.LimitFault.{LimitFault}
 use Rattle.venue_rules.specs.declared.fault.LimitFault.TheVariants.{TooMuchDemand, LockForbidden, TooManyPairs}
-use Rattle.match_rules.specs.declared.rules.TheConstants.{MOST_DEMAND_IN_ALL, MOST_PAIRS}
+use Rattle.match_rules.specs.declared.rules.TheConstants.{MOST_DEMAND_IN_ALL, MOST_PAIRS, RULES_TICKETS}
 use Rattle.venue_rules.specs.Venues.{VenueValue, paper_key, reviewer_key}
 use Rattle.venue_rules.specs.Candidates.{do_share, candidates}
 
@@ -65,7 +65,7 @@ forbidden_in venue [] = None
 forbidden_in venue (row ∷ rows) = or_else (forbidden_in_row venue row.id row.value) (forbidden_in venue rows)
 
 abbrev pub made_rules : VenueValue → RulesValue
-made_rules venue = rules_value venue.settings.limit (map (rule_paper venue) venue.papers) (map (rule_reviewer venue) venue.reviewers) (candidates venue)
+made_rules venue = rules_value RULES_TICKETS venue.settings.limit (map (rule_paper venue) venue.papers) (map (rule_reviewer venue) venue.reviewers) (candidates venue)
 
 -- the rules, where the pairs aren't too many
 abbrev pub if_few_pairs : VenueValue → Result RulesValue LimitFault

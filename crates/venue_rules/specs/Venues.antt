@@ -1,7 +1,7 @@
 -- Venues: what a conference has handed in, as settings and six finite maps.
 use Rattle.std.specs.Prelude.{ℕ, Bool, ◌≤◌, List, [], All, Option, Some, None, ℤ, pos, ◌≤ℤ◌}
 use Rattle.std.specs.Option.{option_map_or}
-use Rattle.match_rules.specs.declared.rules.TheConstants.{MOST_TICKETS}
+use Rattle.match_rules.specs.declared.rules.TheConstants.{RULES_TICKETS}
 use Rattle.roster.specs.declared.rows.PaperRow.{PaperRow}
 use Rattle.roster.specs.declared.rows.ReviewerRow.{ReviewerRow}
 use Rattle.score_spec.specs.PairTables.{PairsValue, value_of_pair}
@@ -55,7 +55,7 @@ IsDemand None = Unit {0}
 IsDemand (Some demand) = demand ≤ 100
 
 abbrev pub IsCap : ℤ → Type 0
-IsCap cap = (pos 0 ≤ℤ cap) × (cap ≤ℤ pos MOST_TICKETS)
+IsCap cap = (pos 0 ≤ℤ cap) × (cap ≤ℤ pos RULES_TICKETS)
 
 -- the limits of single rows, which the readers of the tables keep
 pub record KeepsLimits (venue : VenueValue) : Type 0 where

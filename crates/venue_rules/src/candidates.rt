@@ -11,7 +11,7 @@ ghost use Rattle.match_rules.specs.declared.rules.RulePair.{RulePair};
 use crate::conflict::do_share;
 use crate::listed::listed_places;
 use crate::tables::Tables;
-use match_rules::{MOST_PAIRS, MOST_TICKETS, RulePair};
+use match_rules::{MOST_PAIRS, RULES_TICKETS, RulePair};
 use roster::{MOST_ROWS, PaperRow, ReviewerRow};
 use score_spec::{PaperScores, Value};
 use std::alloc::{AllocError, Global};
@@ -52,7 +52,7 @@ fn cap_of(tables: &Tables, paper: &PaperRow, reviewer: &ReviewerRow) -> Value
 fn tickets_of(tables: &Tables, paper: &PaperRow, reviewer: &ReviewerRow) -> u32
     requires { KeepsLimits tables.now }
     ensures same { result ≡ tickets_of (cap_of tables.now paper.now.id reviewer.now.id) }
-    ensures within { result ≤ MOST_TICKETS }
+    ensures within { result ≤ RULES_TICKETS }
 {
     let cap = cap_of(tables, paper, reviewer);
     cap.tenthousandths() as u32
@@ -73,14 +73,14 @@ struct ReviewerAt<'a> {
 }
 
 fn locked_pair(paper: u32, reviewer: u32, score: i64) -> RulePair
-    ensures { result ≡ record { paper = paper; reviewer = reviewer; score = score; floor = MOST_TICKETS; cap = MOST_TICKETS } }
+    ensures { result ≡ record { paper = paper; reviewer = reviewer; score = score; floor = RULES_TICKETS; cap = RULES_TICKETS } }
 {
     RulePair {
         paper,
         reviewer,
         score,
-        floor: MOST_TICKETS,
-        cap: MOST_TICKETS,
+        floor: RULES_TICKETS,
+        cap: RULES_TICKETS,
     }
 }
 

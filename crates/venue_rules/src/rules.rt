@@ -12,7 +12,9 @@ use crate::candidates::candidates;
 use crate::fault::{LimitFault, VenueFault};
 use crate::locks::forbidden_lock;
 use crate::tables::Tables;
-use match_rules::{MOST_DEMAND_IN_ALL, MOST_PAIRS, RulePair, RulePaper, RuleReviewer, Rules};
+use match_rules::{
+    MOST_DEMAND_IN_ALL, MOST_PAIRS, RULES_TICKETS, RulePair, RulePaper, RuleReviewer, Rules,
+};
 use roster::{Load, MOST_ROWS, PaperRow, ReviewerRow};
 use score_spec::PairKey;
 use std::alloc::{AllocError, Global};
@@ -119,7 +121,7 @@ fn made_rules(alloc: Global, tables: &Tables, pairs: Vec<RulePair>) -> Result<Ru
     let limit = tables.settings.limit();
     let papers = rule_papers(alloc, tables)?;
     let reviewers = rule_reviewers(alloc, tables)?;
-    Rules::of_tested(alloc, limit, papers, reviewers, pairs)
+    Rules::of_tested(alloc, RULES_TICKETS, limit, papers, reviewers, pairs)
 }
 
 // The rules, where the pairs aren't too many.

@@ -1,5 +1,6 @@
 use Rattle.std.proofs.Common.{◌≡◌, ◌∙◌, ◌≤◌, List, All, length, map, sym, ap, subst}
 use Rattle.match_rules.specs.declared.rules.RulePair.{RulePair}
+use Rattle.match_rules.specs.declared.rules.TheConstants.{RULES_TICKETS}
 use Rattle.match_rules.specs.Rules.{AreRules, IsLimit, rules_value}
 use Rattle.venue_rules.specs.Candidates.{candidates}
 use Rattle.venue_rules.specs.Found.{IsPair}
@@ -28,10 +29,10 @@ of_tested-requires c =
     } in
     let few : length (candidates venue) ≤ 250000 = subst (λ (pairs : List RulePair). length pairs ≤ 250000) c.requires.pairs c.requires.few in
     let within : All IsPair (candidates venue) = subst (λ (pairs : List RulePair). All IsPair pairs) c.requires.pairs c.requires.within in
-    let same : rules_value c.limit-limit.result c.in_ok-papers.papers.items c.in_ok-reviewers.reviewers.items c.args.pairs.items ≡ made_rules venue =
-    ap (λ l. rules_value l c.in_ok-papers.papers.items c.in_ok-reviewers.reviewers.items c.args.pairs.items) limit
-    ∙ ap (λ ps. rules_value venue.settings.limit ps c.in_ok-reviewers.reviewers.items c.args.pairs.items) made_papers.same
-    ∙ ap (λ rs. rules_value venue.settings.limit papers rs c.args.pairs.items) made_reviewers.same
-    ∙ ap (λ es. rules_value venue.settings.limit papers reviewers es) c.requires.pairs
+    let same : rules_value RULES_TICKETS c.limit-limit.result c.in_ok-papers.papers.items c.in_ok-reviewers.reviewers.items c.args.pairs.items ≡ made_rules venue =
+    ap (λ l. rules_value RULES_TICKETS l c.in_ok-papers.papers.items c.in_ok-reviewers.reviewers.items c.args.pairs.items) limit
+    ∙ ap (λ ps. rules_value RULES_TICKETS venue.settings.limit ps c.in_ok-reviewers.reviewers.items c.args.pairs.items) made_papers.same
+    ∙ ap (λ rs. rules_value RULES_TICKETS venue.settings.limit papers rs c.args.pairs.items) made_reviewers.same
+    ∙ ap (λ es. rules_value RULES_TICKETS venue.settings.limit papers reviewers es) c.requires.pairs
     in
     subst AreRules (sym same) (are-rules venue rows few within)
