@@ -6,8 +6,8 @@ ghost use Rattle.match_rules.specs.Examples.{small, small_locked, one_house, emp
 ghost use Rattle.match_rules.specs.SharesFit.{shares_score};
 ghost use Rattle.bounded_network.specs.Back.{cut_in, prices_in};
 ghost use Rattle.bounded_network.specs.Compile.{network_of, node_count, flow_of};
-ghost use Rattle.bounded_network.specs.Examples.{arc, network};
-ghost use Rattle.bounded_network.specs.Network.{arc_at, floors_into, rooms_out_of, flow_cost};
+ghost use Rattle.bounded_network.specs.Examples.{arc, network, two_nodes};
+ghost use Rattle.bounded_network.specs.Network.{arc_at, with_bounds, floors_into, rooms_out_of, flow_cost};
 ghost use Rattle.bounded_network.specs.Spans.{span, rounded, rounded_spans, ticket_spans};
 
 /// Networks of small rules.
@@ -49,4 +49,7 @@ pub fn worked_networks()
     ensures above { rounded 3 7 ≡ span 2 3 }
     ensures rounded_pair { arc_at (network_of (small 7000) (rounded_spans (small 7000) (7000 ∷ (3000 ∷ (3000 ∷ (7000 ∷ [])))) 10000)) 0 ≡ arc 0 2 0 1 (pos 0) }
     ensures rounded_paper { arc_at (network_of (small 7000) (rounded_spans (small 7000) (7000 ∷ (3000 ∷ (3000 ∷ (7000 ∷ [])))) 10000)) 4 ≡ arc 4 0 1 1 (pos 0) }
+    // Other bounds of one arc.
+    ensures rebounded { with_bounds two_nodes 1 0 1 ≡ record { nodes = 2; arcs = arc 0 1 1 3 (neg_ℤ (pos 5)) ∷ (arc 1 0 0 1 (pos 1) ∷ []) } }
+    ensures rebounded_past { with_bounds two_nodes 2 0 1 ≡ two_nodes }
 {}

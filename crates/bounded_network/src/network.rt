@@ -1,4 +1,4 @@
-ghost use Rattle.std.specs.Prelude.{◌≡◌, ◌<◌, ◌≤◌, ◌↔◌, ℕ, List, length, IsOk, IfOk, IfErr, IsTrue, slice_index_or};
+ghost use Rattle.std.specs.Prelude.{◌≡◌, ◌<◌, ◌≤◌, ◌↔◌, ℕ, List, length, IsOk, IfOk, IfErr, IsTrue, IsFalse, slice_index_or};
 
 use crate::limits::is_within;
 use std::marker::Model;
@@ -44,7 +44,7 @@ impl Model for Network {
 }
 
 impl Network {
-    ghost use Rattle.bounded_network.specs.Network.{NetworkValue, IsNetwork};
+    ghost use Rattle.bounded_network.specs.Network.{NetworkValue, IsNetwork, with_bounds};
 
     /// The network of the arcs, which are handed back where a limit is broken. It takes no memory.
     pub fn new(nodes: u32, arcs: Vec<Arc>) -> Result<Network, Vec<Arc>>
@@ -72,5 +72,23 @@ impl Network {
         ensures kept { IsNetwork self.now }
     {
         self.arcs.as_slice()
+    }
+
+    /// Sets the bounds of one arc, by its place, and leaves all else. It answers false, and changes nothing, where no arc
+    /// has the place or [`Network::new`] would refuse the bounds. It takes no memory.
+    pub fn rebound(&mut self, arc: u32, floor: u64, room: u64) -> bool
+        ensures exact { IsTrue result ↔ ((arc < length self.old.arcs) × IsNetwork (with_bounds self.old arc floor room)) }
+        ensures bounds { IsTrue result ↔ ((arc < length self.old.arcs) × (floor ≤ room) × (room ≤ MAX_ROOM)) }
+        ensures set { IsTrue result → self.new ≡ with_bounds self.old arc floor room }
+        ensures unchanged { IsFalse result → self.new ≡ self.old }
+        ensures kept { IsNetwork self.new }
+    {
+        let place = arc as usize;
+        if place >= self.arcs.len() || room < floor || MAX_ROOM < room {
+            return false;
+        }
+        let old = self.arcs[place];
+        self.arcs[place] = Arc { floor, room, ..old };
+        true
     }
 }

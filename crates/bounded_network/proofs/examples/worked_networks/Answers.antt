@@ -33,4 +33,6 @@ returns c = record {
   above = refl;
   rounded_pair = refl;
   rounded_paper = refl;
+  rebounded = refl;
+  rebounded_past = refl;
 }
