@@ -1,6 +1,7 @@
 ghost use Rattle.std.specs.Prelude.{◌≡◌, ◌<◌, ◌≤◌, ◌↔◌, ℕ, List, length, IsOk, IfOk, IfErr, IsTrue, IsFalse, slice_index_or};
 
 use crate::limits::is_within;
+use match_rules::{MOST_PAIRS, MOST_PAPERS, MOST_REVIEWERS, MOST_SCORE};
 use std::marker::Model;
 
 /// An arc: it carries an amount from its tail to its head, at least its floor and at most its room, at its cost a unit.
@@ -13,17 +14,18 @@ pub struct Arc {
     pub cost: i64,
 }
 
-/// The greatest number of nodes of a network.
-pub const MAX_NODES: u32 = 253_001;
+/// The greatest number of nodes of a network: papers, groups, of which there are at most as many as pairs, reviewers, and
+/// the hub.
+pub const MAX_NODES: u32 = MOST_PAPERS + MOST_PAIRS + MOST_REVIEWERS + 1;
 
-/// The greatest number of arcs of a network.
-pub const MAX_ARCS: usize = 503_000;
+/// The greatest number of arcs of a network: one for each pair, paper, group and reviewer.
+pub const MAX_ARCS: usize = (MOST_PAIRS + MOST_PAPERS + MOST_PAIRS + MOST_REVIEWERS) as usize;
 
 /// The greatest room of an arc, 2^50.
 pub const MAX_ROOM: u64 = 1_125_899_906_842_624;
 
-/// The greatest magnitude of a cost.
-pub const MAX_COST: i64 = 8_000_000_000;
+/// The greatest magnitude of a cost, which is that of a score.
+pub const MAX_COST: i64 = MOST_SCORE as i64;
 
 /// A network: nodes, counted from 0, and arcs between them. A circulation gives each arc an amount between its floor
 /// and its room, so that at each node as much enters as leaves.
