@@ -20,12 +20,13 @@ use Rattle.match_rules.specs.Sums.{count_below, when}
 use Rattle.match_rules.proofs.GroupLaws.{group_of_below}
 use Rattle.bounded_network.specs.declared.network.Arc.{Arc}
 use Rattle.bounded_network.specs.Network.{AreViolated, no_arc, is_marked, floors_into, rooms_out_of}
-use Rattle.bounded_network.specs.Spans.{Spans, ticket_spans}
-use Rattle.bounded_network.specs.Compile.{network_of, hub, group_node, reviewer_node, tail_of, pair_arc, paper_arc, group_arc, reviewer_arc}
+use Rattle.bounded_network.specs.Spans.{ticket_spans}
+use Rattle.bounded_network.specs.Compile.{network_of, hub, group_node, reviewer_node, tail_of}
 use Rattle.bounded_network.specs.Back.{places_where, is_apart, cut_in}
 use Rattle.bounded_network.proofs.Sums.{count_below-equal}
 use Rattle.bounded_network.proofs.Counts.{count_below-zero, when-zero}
-use Rattle.bounded_network.proofs.Parts.{count_in_four}
+use Rattle.bounded_network.proofs.Parts.{count-joined}
+use Rattle.bounded_network.proofs.Compiled.{arc_parts}
 use Rattle.bounded_network.proofs.Nodes.{group-paper-below}
 use Rattle.bounded_network.proofs.Small.{floor-under}
 
@@ -208,10 +209,7 @@ floors-parts : (rules : RulesValue) (sieve : Sieve) (marked : List Bool) →
     + count_below (group_count rules) (λ g. when (is_marked marked (group_node rules g) && not (is_marked marked (paper_of_group rules g))) 0))
     + count_below (length rules.reviewers) (λ r. when (is_marked marked (hub rules) && not (is_marked marked (reviewer_node rules r))) (rules.tickets * (reviewer_at rules r).least))
 floors-parts rules sieve marked =
-    let spans : Spans = ticket_spans rules sieve in
-    count_in_four (length rules.pairs) (length rules.papers) (group_count rules) (length rules.reviewers)
-    (pair_arc rules spans) (paper_arc rules spans) (group_arc rules spans) (reviewer_arc rules spans) no_arc
-    (λ (arc : Arc) a. when (is_marked marked arc.head && not (is_marked marked arc.tail)) arc.floor)
+    omega (arith, count-joined (arc_parts rules (ticket_spans rules sieve)) no_arc (λ (arc : Arc) a. when (is_marked marked arc.head && not (is_marked marked arc.tail)) arc.floor) (λ a. a))
 
 rooms-parts : (rules : RulesValue) (sieve : Sieve) (marked : List Bool) →
     rooms_out_of (network_of rules (ticket_spans rules sieve)) marked
@@ -220,10 +218,7 @@ rooms-parts : (rules : RulesValue) (sieve : Sieve) (marked : List Bool) →
     + count_below (group_count rules) (λ g. when (is_marked marked (paper_of_group rules g) && not (is_marked marked (group_node rules g))) (rules.tickets * rules.limit)))
     + count_below (length rules.reviewers) (λ r. when (is_marked marked (reviewer_node rules r) && not (is_marked marked (hub rules))) (rules.tickets * (reviewer_at rules r).greatest))
 rooms-parts rules sieve marked =
-    let spans : Spans = ticket_spans rules sieve in
-    count_in_four (length rules.pairs) (length rules.papers) (group_count rules) (length rules.reviewers)
-    (pair_arc rules spans) (paper_arc rules spans) (group_arc rules spans) (reviewer_arc rules spans) no_arc
-    (λ (arc : Arc) a. when (is_marked marked arc.tail && not (is_marked marked arc.head)) arc.room)
+    omega (arith, count-joined (arc_parts rules (ticket_spans rules sieve)) no_arc (λ (arc : Arc) a. when (is_marked marked arc.tail && not (is_marked marked arc.head)) arc.room) (λ a. a))
 
 -- the kept pairs that pass, by any two tests of the ends that agree with the marks
 floors-of_pairs : (rules : RulesValue) (sieve : Sieve) (marked : List Bool) (test : ℕ → Bool) → AreRules rules

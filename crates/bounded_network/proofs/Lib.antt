@@ -7,6 +7,7 @@ pub mod Laws
 pub mod Nodes
 pub mod Parts
 pub mod PriceLaws
+pub mod Rebounds
 pub mod Scaled
 pub mod ScaledLaws
 pub mod Serving

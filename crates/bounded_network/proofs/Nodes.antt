@@ -11,10 +11,10 @@ use Rattle.match_rules.proofs.GroupLaws.{group_of_below, group_of_paper, group_h
 use Rattle.bounded_network.specs.declared.network.Arc.{Arc}
 use Rattle.bounded_network.specs.Network.{NetworkValue, no_arc, entering, leaving}
 use Rattle.bounded_network.specs.Spans.{Spans}
-use Rattle.bounded_network.specs.Compile.{group_node, reviewer_node, hub, node_count, tail_of, pair_arc, paper_arc, group_arc, reviewer_arc, network_of}
+use Rattle.bounded_network.specs.Compile.{group_node, parent_of, reviewer_node, hub, node_count, tail_of, pair_arc, paper_arc, group_arc, reviewer_arc, parts_of, paper_place, group_place, reviewer_place, network_of}
 use Rattle.bounded_network.proofs.Sums.{count_below-equal, when-same, when-other}
 use Rattle.bounded_network.proofs.Counts.{count_below-zero, count_below-sum, count_exchange, none_there, one_there, one_of, one_place, all_there, at_all_nodes, when-count, when-zero, when-swap}
-use Rattle.bounded_network.proofs.Parts.{count_in_four}
+use Rattle.bounded_network.proofs.Parts.{count-joined}
 
 -- ---- where the ends of arcs are
 
@@ -81,31 +81,29 @@ paper_shares-is rules flow p lt =
 abbrev pub at_node : RulesValue → List ℕ → (ℕ → ℕ) → (ℕ → ℕ) → (ℕ → ℕ) → (ℕ → ℕ) → ℕ → ℕ
 at_node rules flow of_pair of_paper of_group of_reviewer v =
     ((count_below (length rules.pairs) (λ e. when (of_pair e == v) (slice_index flow e))
-    + count_below (length rules.papers) (λ p. when (of_paper p == v) (slice_index flow (length rules.pairs + p))))
-    + count_below (group_count rules) (λ g. when (of_group g == v) (slice_index flow ((length rules.pairs + length rules.papers) + g))))
-    + count_below (length rules.reviewers) (λ r. when (of_reviewer r == v) (slice_index flow (((length rules.pairs + length rules.papers) + group_count rules) + r)))
+    + count_below (length rules.papers) (λ p. when (of_paper p == v) (slice_index flow (paper_place rules p))))
+    + count_below (group_count rules) (λ g. when (of_group g == v) (slice_index flow (group_place rules g))))
+    + count_below (length rules.reviewers) (λ r. when (of_reviewer r == v) (slice_index flow (reviewer_place rules r)))
 
 pub entering-is : (rules : RulesValue) (spans : Spans) (flow : List ℕ) (v : ℕ) →
     entering (network_of rules spans) flow v ≡ at_node rules flow (λ e. reviewer_node rules (pair_at rules e).reviewer) (λ p. p) (group_node rules) (λ r. hub rules) v
 entering-is rules spans flow v =
-    count_in_four (length rules.pairs) (length rules.papers) (group_count rules) (length rules.reviewers)
-    (pair_arc rules spans) (paper_arc rules spans) (group_arc rules spans) (reviewer_arc rules spans) no_arc (λ (arc : Arc) a. when (arc.head == v) (slice_index flow a))
+    omega (arith, count-joined (parts_of rules (pair_arc rules spans) (paper_arc rules spans) (group_arc rules spans) (reviewer_arc rules spans)) no_arc (λ (arc : Arc) a. when (arc.head == v) (slice_index flow a)) (λ a. a))
 
 pub leaving-is : (rules : RulesValue) (spans : Spans) (flow : List ℕ) (v : ℕ) →
-    leaving (network_of rules spans) flow v ≡ at_node rules flow (tail_of rules) (λ p. hub rules) (paper_of_group rules) (reviewer_node rules) v
+    leaving (network_of rules spans) flow v ≡ at_node rules flow (tail_of rules) (λ p. hub rules) (parent_of rules) (reviewer_node rules) v
 leaving-is rules spans flow v =
-    count_in_four (length rules.pairs) (length rules.papers) (group_count rules) (length rules.reviewers)
-    (pair_arc rules spans) (paper_arc rules spans) (group_arc rules spans) (reviewer_arc rules spans) no_arc (λ (arc : Arc) a. when (arc.tail == v) (slice_index flow a))
+    omega (arith, count-joined (parts_of rules (pair_arc rules spans) (paper_arc rules spans) (group_arc rules spans) (reviewer_arc rules spans)) no_arc (λ (arc : Arc) a. when (arc.tail == v) (slice_index flow a)) (λ a. a))
 
 -- the amounts of papers, groups and reviewers in a flow
 abbrev pub paper_flow : RulesValue → List ℕ → ℕ → ℕ
-paper_flow rules flow p = slice_index flow (length rules.pairs + p)
+paper_flow rules flow p = slice_index flow (paper_place rules p)
 
 abbrev pub group_flow : RulesValue → List ℕ → ℕ → ℕ
-group_flow rules flow g = slice_index flow ((length rules.pairs + length rules.papers) + g)
+group_flow rules flow g = slice_index flow (group_place rules g)
 
 abbrev pub reviewer_flow : RulesValue → List ℕ → ℕ → ℕ
-reviewer_flow rules flow r = slice_index flow (((length rules.pairs + length rules.papers) + group_count rules) + r)
+reviewer_flow rules flow r = slice_index flow (reviewer_place rules r)
 
 pub enters-paper : (rules : RulesValue) (spans : Spans) (flow : List ℕ) (p : ℕ) → p < length rules.papers →
     entering (network_of rules spans) flow p ≡ paper_flow rules flow p

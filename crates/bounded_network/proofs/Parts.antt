@@ -1,12 +1,12 @@
--- Lists by places, and lists in four parts.
+-- Lists by places, and lists of parts.
 use Rattle.std.proofs.Common.{◌≡◌, ℕ, zero, suc, ◌+◌, ◌-◌, ◌<◌, List, [], ◌∷◌, ◌++◌, length, get_or, take, refl, sym, ap, ◌∙◌, subst, arith, inl, inr}
-use Rattle.std.specs.Prelude.{ℤ, ◌+ℤ◌}
+use Rattle.std.specs.Prelude.{ℤ, pos, ◌+ℤ◌}
 use Rattle.std.proofs.lemmas.Int.{ints}
 use Rattle.std.proofs.lemmas.Bool.{cases_eq, cases_lt}
 use Rattle.std.proofs.lemmas.List.{length-append, get_or-append-add, get_or_append_left, take-append-le}
 use Rattle.std.proofs.Math.Seq.{take-length}
 use Rattle.match_rules.specs.Sums.{sum_below, count_below}
-use Rattle.bounded_network.specs.Compile.{listed}
+use Rattle.bounded_network.specs.Compile.{Part, listed, joined}
 use Rattle.bounded_network.proofs.Sums.{sum_below-equal, count_below-equal}
 
 pub length-listed : {X : Type 0} → (n : ℕ) (f : ℕ → X) → length (listed n f) ≡ n
@@ -33,77 +33,52 @@ left-at xs ys n i d long lt = get_or_append_left xs ys d i (omega arith)
 pub right-at : {X : Type 0} → (xs ys : List X) (n i : ℕ) (d : X) → length xs ≡ n → get_or (xs ++ ys) (n + i) d ≡ get_or ys i d
 right-at xs ys n i d long = rw long at (get_or-append-add xs ys i d)
 
--- ---- four parts of k, p, g and r entries
+-- ---- a list of parts
 
-abbrev pub four : {X : Type 0} → ℕ → ℕ → ℕ → ℕ → (ℕ → X) → (ℕ → X) → (ℕ → X) → (ℕ → X) → List X
-four k p g r a b c d = ((listed k a ++ listed p b) ++ listed g c) ++ listed r d
+-- how many entries there are
+abbrev pub size_of : {X : Type 0} → List (Part X) → ℕ
+size_of [] = 0
+size_of (one ∷ parts) = one.size + size_of parts
 
-length-two : {X : Type 0} → (k p : ℕ) (a b : ℕ → X) → length (listed k a ++ listed p b) ≡ k + p
-length-two k p a b = omega (arith, length-append (listed k a) (listed p b), length-listed k a, length-listed p b)
+pub length-joined : {X : Type 0} → (parts : List (Part X)) → length (joined parts) ≡ size_of parts
+length-joined [] = refl
+length-joined (one ∷ parts) =
+    omega (arith, length-append (listed one.size one.entry) (joined parts), length-listed one.size one.entry, length-joined parts)
 
-length-three : {X : Type 0} → (k p g : ℕ) (a b c : ℕ → X) → length ((listed k a ++ listed p b) ++ listed g c) ≡ (k + p) + g
-length-three k p g a b c = omega (arith, length-append (listed k a ++ listed p b) (listed g c), length-two k p a b, length-listed g c)
+-- the entries of the first part stand first, and those of the others behind them
+pub first-at : {X : Type 0} → (one : Part X) (parts : List (Part X)) (i : ℕ) (x : X) → i < one.size → get_or (joined (one ∷ parts)) i x ≡ one.entry i
+first-at one parts i x lt =
+    left-at (listed one.size one.entry) (joined parts) one.size i x (length-listed one.size one.entry) lt
+    ∙ listed-at one.size i one.entry x lt
 
-pub length-four : {X : Type 0} → (k p g r : ℕ) (a b c d : ℕ → X) → length (four k p g r a b c d) ≡ ((k + p) + g) + r
-length-four k p g r a b c d =
-    omega (arith, length-append ((listed k a ++ listed p b) ++ listed g c) (listed r d), length-three k p g a b c, length-listed r d)
+pub later-at : {X : Type 0} → (one : Part X) (parts : List (Part X)) (i : ℕ) (x : X) → get_or (joined (one ∷ parts)) (one.size + i) x ≡ get_or (joined parts) i x
+later-at one parts i x = right-at (listed one.size one.entry) (joined parts) one.size i x (length-listed one.size one.entry)
 
-pub first-at : {X : Type 0} → (k p g r : ℕ) (a b c d : ℕ → X) (x : X) (i : ℕ) → i < k → get_or (four k p g r a b c d) i x ≡ a i
-first-at k p g r a b c d x i lt =
-    left-at ((listed k a ++ listed p b) ++ listed g c) (listed r d) ((k + p) + g) i x (length-three k p g a b c) (omega arith)
-    ∙ left-at (listed k a ++ listed p b) (listed g c) (k + p) i x (length-two k p a b) (omega arith)
-    ∙ left-at (listed k a) (listed p b) k i x (length-listed k a) lt
-    ∙ listed-at k i a x lt
+pub take-first : {X : Type 0} → (one : Part X) (parts : List (Part X)) → take one.size (joined (one ∷ parts)) ≡ listed one.size one.entry
+take-first one parts =
+    let long = length-listed one.size one.entry in
+    take-append-le one.size (listed one.size one.entry) (joined parts) (omega arith)
+    ∙ ap (λ n. take n (listed one.size one.entry)) (sym long)
+    ∙ take-length (listed one.size one.entry)
 
-pub second-at : {X : Type 0} → (k p g r : ℕ) (a b c d : ℕ → X) (x : X) (i : ℕ) → i < p → get_or (four k p g r a b c d) (k + i) x ≡ b i
-second-at k p g r a b c d x i lt =
-    left-at ((listed k a ++ listed p b) ++ listed g c) (listed r d) ((k + p) + g) (k + i) x (length-three k p g a b c) (omega arith)
-    ∙ left-at (listed k a ++ listed p b) (listed g c) (k + p) (k + i) x (length-two k p a b) (omega arith)
-    ∙ right-at (listed k a) (listed p b) k i x (length-listed k a)
-    ∙ listed-at p i b x lt
+-- what holds of the entries of each part, where the place of an entry in a part is shifted to one in the list
+abbrev pub HoldsInParts : {X : Type 0} → List (Part X) → (X → ℕ → Type 0) → (ℕ → ℕ) → Type 0
+HoldsInParts [] Q shift = Unit {0}
+HoldsInParts (one ∷ parts) Q shift = ((i : ℕ) → i < one.size → Q (one.entry i) (shift i)) × HoldsInParts parts Q (λ i. shift (one.size + i))
 
-pub third-at : {X : Type 0} → (k p g r : ℕ) (a b c d : ℕ → X) (x : X) (i : ℕ) → i < g → get_or (four k p g r a b c d) ((k + p) + i) x ≡ c i
-third-at k p g r a b c d x i lt =
-    left-at ((listed k a ++ listed p b) ++ listed g c) (listed r d) ((k + p) + g) ((k + p) + i) x (length-three k p g a b c) (omega arith)
-    ∙ right-at (listed k a ++ listed p b) (listed g c) (k + p) i x (length-two k p a b)
-    ∙ listed-at g i c x lt
-
-pub fourth-at : {X : Type 0} → (k p g r : ℕ) (a b c d : ℕ → X) (x : X) (i : ℕ) → i < r → get_or (four k p g r a b c d) (((k + p) + g) + i) x ≡ d i
-fourth-at k p g r a b c d x i lt =
-    right-at ((listed k a ++ listed p b) ++ listed g c) (listed r d) ((k + p) + g) i x (length-three k p g a b c)
-    ∙ listed-at r i d x lt
-
--- what holds in each part holds at each place
-pub each-four : {X : Type 0} → (k p g r : ℕ) (a b c d : ℕ → X) (x : X) (Q : X → ℕ → Type 0)
-    → ((i : ℕ) → i < k → Q (a i) i)
-    → ((i : ℕ) → i < p → Q (b i) (k + i))
-    → ((i : ℕ) → i < g → Q (c i) ((k + p) + i))
-    → ((i : ℕ) → i < r → Q (d i) (((k + p) + g) + i))
-    → (j : ℕ) → j < length (four k p g r a b c d) → Q (get_or (four k p g r a b c d) j x) j
-each-four k p g r a b c d x Q one two three last j lt =
-    let long = length-four k p g r a b c d in
-    elim (cases_lt j k) [
-      | inl h ↦ subst (λ y. Q y j) (sym (first-at k p g r a b c d x j h)) (one j h)
-      | inr h ↦ elim (cases_lt j (k + p)) [
-        | inl h2 ↦
-            let i : ℕ = j - k in
-            let e : k + i ≡ j = omega arith in
-            let at = second-at k p g r a b c d x i (omega arith) in
-            subst (λ n. Q (get_or (four k p g r a b c d) n x) n) e (subst (λ y. Q y (k + i)) (sym at) (two i (omega arith)))
-        | inr h2 ↦ elim (cases_lt j ((k + p) + g)) [
-          | inl h3 ↦
-              let i : ℕ = j - (k + p) in
-              let e : (k + p) + i ≡ j = omega arith in
-              let at = third-at k p g r a b c d x i (omega arith) in
-              subst (λ n. Q (get_or (four k p g r a b c d) n x) n) e (subst (λ y. Q y ((k + p) + i)) (sym at) (three i (omega arith)))
-          | inr h3 ↦
-              let i : ℕ = j - ((k + p) + g) in
-              let e : ((k + p) + g) + i ≡ j = omega arith in
-              let at = fourth-at k p g r a b c d x i (omega arith) in
-              subst (λ n. Q (get_or (four k p g r a b c d) n x) n) e (subst (λ y. Q y (((k + p) + g) + i)) (sym at) (last i (omega arith)))
-        ]
-      ]
-    ]
+-- holds at each place
+pub each-joined : {X : Type 0} → (parts : List (Part X)) (x : X) (Q : X → ℕ → Type 0) (shift : ℕ → ℕ) → HoldsInParts parts Q shift
+    → (j : ℕ) → j < length (joined parts) → Q (get_or (joined parts) j x) (shift j)
+each-joined [] x Q shift each j lt = absurd (omega arith)
+each-joined (one ∷ parts) x Q shift each j lt = elim (cases_lt j one.size) [
+  | inl h ↦ subst (λ y. Q y (shift j)) (sym (first-at one parts j x h)) (each.0 j h)
+  | inr h ↦
+      let i : ℕ = j - one.size in
+      let e : one.size + i ≡ j = omega arith in
+      let long = length-joined (one ∷ parts) in
+      let there = each-joined parts x Q (λ i. shift (one.size + i)) each.1 i (omega (arith, length-joined parts)) in
+      subst (λ n. Q (get_or (joined (one ∷ parts)) n x) (shift n)) e (subst (λ y. Q y (shift (one.size + i))) (sym (later-at one parts i x)) there)
+]
 
 -- ---- sums over them
 
@@ -119,45 +94,43 @@ sum_below-split n (suc m) f =
     let e : n + suc m ≡ suc (n + m) = omega arith in
     rw e (omega (arith, ints, sum_below-split n m f))
 
-pub count_in_four : {X : Type 0} → (k p g r : ℕ) (a b c d : ℕ → X) (x : X) (F : X → ℕ → ℕ)
-    → count_below (length (four k p g r a b c d)) (λ j. F (get_or (four k p g r a b c d) j x) j)
-    ≡ ((count_below k (λ i. F (a i) i) + count_below p (λ i. F (b i) (k + i))) + count_below g (λ i. F (c i) ((k + p) + i))) + count_below r (λ i. F (d i) (((k + p) + g) + i))
-count_in_four k p g r a b c d x F =
-    let f : ℕ → ℕ = λ j. F (get_or (four k p g r a b c d) j x) j in
-    let s3 = count_below-split ((k + p) + g) r f in
-    let s2 = count_below-split (k + p) g f in
-    let s1 = count_below-split k p f in
-    let e1 = count_below-equal k f (λ i. F (a i) i) (λ i lt. ap (λ y. F y i) (first-at k p g r a b c d x i lt)) in
-    let e2 = count_below-equal p (λ i. f (k + i)) (λ i. F (b i) (k + i)) (λ i lt. ap (λ y. F y (k + i)) (second-at k p g r a b c d x i lt)) in
-    let e3 = count_below-equal g (λ i. f ((k + p) + i)) (λ i. F (c i) ((k + p) + i)) (λ i lt. ap (λ y. F y ((k + p) + i)) (third-at k p g r a b c d x i lt)) in
-    let e4 = count_below-equal r (λ i. f (((k + p) + g) + i)) (λ i. F (d i) (((k + p) + g) + i)) (λ i lt. ap (λ y. F y (((k + p) + g) + i)) (fourth-at k p g r a b c d x i lt)) in
-    rw (length-four k p g r a b c d) (omega (arith, s3, s2, s1, e1, e2, e3, e4))
+-- the sums of the parts
+abbrev pub count_of_parts : {X : Type 0} → List (Part X) → (X → ℕ → ℕ) → (ℕ → ℕ) → ℕ
+count_of_parts [] F shift = 0
+count_of_parts (one ∷ parts) F shift = count_below one.size (λ i. F (one.entry i) (shift i)) + count_of_parts parts F (λ i. shift (one.size + i))
 
-pub sum_in_four : {X : Type 0} → (k p g r : ℕ) (a b c d : ℕ → X) (x : X) (F : X → ℕ → ℤ)
-    → sum_below (length (four k p g r a b c d)) (λ j. F (get_or (four k p g r a b c d) j x) j)
-    ≡ ((sum_below k (λ i. F (a i) i) +ℤ sum_below p (λ i. F (b i) (k + i))) +ℤ sum_below g (λ i. F (c i) ((k + p) + i))) +ℤ sum_below r (λ i. F (d i) (((k + p) + g) + i))
-sum_in_four k p g r a b c d x F =
-    let f : ℕ → ℤ = λ j. F (get_or (four k p g r a b c d) j x) j in
-    let s3 = sum_below-split ((k + p) + g) r f in
-    let s2 = sum_below-split (k + p) g f in
-    let s1 = sum_below-split k p f in
-    let e1 = sum_below-equal k f (λ i. F (a i) i) (λ i lt. ap (λ y. F y i) (first-at k p g r a b c d x i lt)) in
-    let e2 = sum_below-equal p (λ i. f (k + i)) (λ i. F (b i) (k + i)) (λ i lt. ap (λ y. F y (k + i)) (second-at k p g r a b c d x i lt)) in
-    let e3 = sum_below-equal g (λ i. f ((k + p) + i)) (λ i. F (c i) ((k + p) + i)) (λ i lt. ap (λ y. F y ((k + p) + i)) (third-at k p g r a b c d x i lt)) in
-    let e4 = sum_below-equal r (λ i. f (((k + p) + g) + i)) (λ i. F (d i) (((k + p) + g) + i)) (λ i lt. ap (λ y. F y (((k + p) + g) + i)) (fourth-at k p g r a b c d x i lt)) in
-    rw (length-four k p g r a b c d) (omega (arith, ints, s3, s2, s1, e1, e2, e3, e4))
+abbrev pub sum_of_parts : {X : Type 0} → List (Part X) → (X → ℕ → ℤ) → (ℕ → ℕ) → ℤ
+sum_of_parts [] F shift = pos 0
+sum_of_parts (one ∷ parts) F shift = sum_below one.size (λ i. F (one.entry i) (shift i)) +ℤ sum_of_parts parts F (λ i. shift (one.size + i))
 
--- the first part of four is its list
-pub take-four : {X : Type 0} → (k p g r : ℕ) (a b c d : ℕ → X) → take k (four k p g r a b c d) ≡ listed k a
-take-four k p g r a b c d =
-    let l3 = length-three k p g a b c in
-    let l2 = length-two k p a b in
-    let l1 = length-listed k a in
-    take-append-le k ((listed k a ++ listed p b) ++ listed g c) (listed r d) (omega arith)
-    ∙ take-append-le k (listed k a ++ listed p b) (listed g c) (omega arith)
-    ∙ take-append-le k (listed k a) (listed p b) (omega arith)
-    ∙ ap (λ n. take n (listed k a)) (sym l1)
-    ∙ take-length (listed k a)
+-- are the sum of the list
+pub count-joined : {X : Type 0} → (parts : List (Part X)) (x : X) (F : X → ℕ → ℕ) (shift : ℕ → ℕ)
+    → count_below (length (joined parts)) (λ j. F (get_or (joined parts) j x) (shift j)) ≡ count_of_parts parts F shift
+count-joined [] x F shift = refl
+count-joined (one ∷ parts) x F shift =
+    let n : ℕ = one.size in
+    let m : ℕ = length (joined parts) in
+    let f : ℕ → ℕ = λ j. F (get_or (joined (one ∷ parts)) j x) (shift j) in
+    let long : length (joined (one ∷ parts)) ≡ n + m = omega (arith, length-append (listed n one.entry) (joined parts), length-listed n one.entry) in
+    let split = count_below-split n m f in
+    let here = count_below-equal n f (λ i. F (one.entry i) (shift i)) (λ i lt. ap (λ y. F y (shift i)) (first-at one parts i x lt)) in
+    let there = count_below-equal m (λ i. f (n + i)) (λ i. F (get_or (joined parts) i x) (shift (n + i))) (λ i lt. ap (λ y. F y (shift (n + i))) (later-at one parts i x)) in
+    let others = count-joined parts x F (λ i. shift (n + i)) in
+    rw long (omega (arith, split, here, there, others))
+
+pub sum-joined : {X : Type 0} → (parts : List (Part X)) (x : X) (F : X → ℕ → ℤ) (shift : ℕ → ℕ)
+    → sum_below (length (joined parts)) (λ j. F (get_or (joined parts) j x) (shift j)) ≡ sum_of_parts parts F shift
+sum-joined [] x F shift = refl
+sum-joined (one ∷ parts) x F shift =
+    let n : ℕ = one.size in
+    let m : ℕ = length (joined parts) in
+    let f : ℕ → ℤ = λ j. F (get_or (joined (one ∷ parts)) j x) (shift j) in
+    let long : length (joined (one ∷ parts)) ≡ n + m = omega (arith, length-append (listed n one.entry) (joined parts), length-listed n one.entry) in
+    let split = sum_below-split n m f in
+    let here = sum_below-equal n f (λ i. F (one.entry i) (shift i)) (λ i lt. ap (λ y. F y (shift i)) (first-at one parts i x lt)) in
+    let there = sum_below-equal m (λ i. f (n + i)) (λ i. F (get_or (joined parts) i x) (shift (n + i))) (λ i lt. ap (λ y. F y (shift (n + i))) (later-at one parts i x)) in
+    let others = sum-joined parts x F (λ i. shift (n + i)) in
+    rw long (omega (arith, ints, split, here, there, others))
 
 -- one more entry
 pub listed-next : {X : Type 0} → (n : ℕ) (f : ℕ → X) → listed (n + 1) f ≡ listed n f ++ (f n ∷ [])

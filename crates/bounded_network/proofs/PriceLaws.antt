@@ -22,9 +22,9 @@ use Rattle.bounded_network.specs.Compile.{network_of, amounts_in, group_node, re
 use Rattle.bounded_network.specs.Back.{prices_in, paper_price_in, group_price_in, reviewer_price_in}
 use Rattle.bounded_network.proofs.Scaled.{scale-suc, scale--ℤ, scale_by_sum, scale_not_negative, scale_more, scale_less}
 use Rattle.bounded_network.proofs.Sums.{sum_below-equal}
-use Rattle.bounded_network.proofs.Parts.{sum_in_four, listed-at}
+use Rattle.bounded_network.proofs.Parts.{sum-joined, listed-at}
 use Rattle.bounded_network.proofs.Laws.{flow_cost-reduced}
-use Rattle.bounded_network.proofs.Compiled.{cost-of_pairs}
+use Rattle.bounded_network.proofs.Compiled.{arc_parts, cost-of_pairs}
 use Rattle.bounded_network.proofs.Small.{floor-under, network-of_small, tickets-small}
 
 -- ---- products
@@ -173,7 +173,7 @@ bound-is_sum rules sieve potentials are =
     let spans : Spans = ticket_spans rules sieve in
     let prices : Prices = prices_in rules potentials in
     let most : Arc → ℤ = λ (arc : Arc). most_at arc.floor arc.room (gain potentials arc) in
-    let whole = sum_in_four k ps gs rs (pair_arc rules spans) (paper_arc rules spans) (group_arc rules spans) (reviewer_arc rules spans) no_arc (λ (arc : Arc) a. most arc) in
+    let whole = sum-joined (arc_parts rules spans) no_arc (λ (arc : Arc) a. most arc) (λ a. a) in
     let pairs : sum_below k (λ e. most (pair_arc rules spans e)) ≡ pair_part rules sieve prices =
     sum_below-equal k (λ e. most (pair_arc rules spans e)) (λ e. int_when (keeps rules sieve e) (most_at (pair_at rules e).floor (pair_at rules e).cap (rest rules prices e)))
     (λ e lt. ap (λ z. most_at (pair_at rules e).floor (cap_under rules sieve e) z) (gain-of_pair rules sieve potentials e are lt) ∙ pair-part rules sieve e (rest rules prices e) are lt) in

@@ -5,7 +5,7 @@ use Rattle.std.proofs.lemmas.Int.{ints}
 use Rattle.std.proofs.lemmas.Bool.{eq-eqb}
 use Rattle.std.proofs.Math.Nat.{div-add-mod}
 use Rattle.match_rules.specs.declared.answer.Sieve.{Sieve}
-use Rattle.match_rules.specs.declared.rules.TheConstants.{MOST_TICKETS}
+use Rattle.match_rules.specs.declared.rules.TheConstants.{MOST_TICKETS, MOST_PAPERS, MOST_REVIEWERS, MOST_PAIRS, MOST_LOAD}
 use Rattle.match_rules.specs.Rules.{RulesValue, AreRules, paper_at, reviewer_at, pair_at, is_locked}
 use Rattle.match_rules.specs.Groups.{group_count}
 use Rattle.match_rules.specs.Answers.{shares_where}
@@ -40,9 +40,9 @@ pub record AreSmall (rules : RulesValue) (spans : Spans) : Type 0 where
 
 pub network-of_small : (rules : RulesValue) (spans : Spans) → AreRules rules → AreSmall rules spans → IsNetwork (network_of rules spans)
 network-of_small rules spans are small =
-    let papers : length rules.papers ≤ 1500 = are.papers.few in
-    let reviewers : length rules.reviewers ≤ 1500 = are.reviewers.few in
-    let pairs : length rules.pairs ≤ 250000 = are.pairs.few in
+    let papers : length rules.papers ≤ MOST_PAPERS = are.papers.few in
+    let reviewers : length rules.reviewers ≤ MOST_REVIEWERS = are.reviewers.few in
+    let pairs : length rules.pairs ≤ MOST_PAIRS = are.pairs.few in
     let groups : group_count rules ≤ length rules.pairs = group_count_few rules in
     record {
       few_nodes = omega arith;
@@ -99,7 +99,7 @@ pub when-at_most : (b : Bool) (x : ℕ) → when b x ≤ x
 when-at_most true x = omega arith
 when-at_most false x = omega arith
 
-scaled-small : (tickets x : ℕ) → tickets ≡ MOST_TICKETS → x ≤ 1500 → tickets * x ≤ MAX_ROOM
+scaled-small : (tickets x : ℕ) → tickets ≡ MOST_TICKETS → x ≤ MOST_LOAD → tickets * x ≤ MAX_ROOM
 scaled-small tickets x is few = rw is (omega arith)
 
 scaled-ordered : (tickets x y : ℕ) → tickets ≡ MOST_TICKETS → x ≤ y → tickets * x ≤ tickets * y

@@ -1,10 +1,10 @@
 -- Sums that a loop over the pairs adds up, one amount at a time.
-use Rattle.std.proofs.Common.{◌≡◌, ℕ, suc, ◌+◌, ◌^◌, ◌<◌, ◌≤◌, Bool, true, false, List, ◌++◌, length, get_or, set, replicate, refl, sym, ap, ◌∙◌, arith, inl, inr, get_or-set_other, get_or-set_same}
+use Rattle.std.proofs.Common.{◌≡◌, ℕ, suc, ◌+◌, ◌^◌, ◌<◌, ◌≤◌, Bool, true, false, List, ◌++◌, append_assoc, length, get_or, set, replicate, refl, sym, ap, ◌∙◌, arith, inl, inr, get_or-set_other, get_or-set_same}
 use Rattle.std.specs.Prelude.{◌==◌, slice_index}
 use Rattle.std.proofs.Math.ListN.{length-set}
 use Rattle.std.proofs.lemmas.Bool.{cases_eq, eq-eqb, ne_eqb}
 use Rattle.std.proofs.lemmas.Grind.{same_number_lists}
-use Rattle.std.proofs.lemmas.List.{get_or-replicate, length-replicate}
+use Rattle.std.proofs.lemmas.List.{append-nil, get_or-replicate, length-replicate}
 use Rattle.match_rules.specs.Rules.{RulesValue}
 use Rattle.match_rules.specs.Sums.{count_below, when}
 use Rattle.bounded_network.specs.declared.network.TheConstants.{MAX_ROOM}
@@ -88,5 +88,5 @@ pub joined-flow : (rules : RulesValue) (shares : List ℕ) (totals : Totals) (am
 joined-flow rules shares totals amounts long sums joined =
     let pairs = shares-listed (length rules.pairs) shares long in
     let parts : (List ℕ) → List ℕ = λ front. ((front ++ totals.papers.items) ++ totals.of_groups.items) ++ totals.reviewers.items in
-    let whole : parts (listed (length rules.pairs) (slice_index shares)) ≡ flow_of rules shares = rw (sums.papers, sums.of_groups, sums.reviewers) refl in
+    let whole : parts (listed (length rules.pairs) (slice_index shares)) ≡ flow_of rules shares = rw (sums.papers, sums.of_groups, sums.reviewers) (simp (append_assoc, append-nil)) in
     joined ∙ ap parts pairs ∙ whole

@@ -4,27 +4,32 @@ use Rattle.match_rules.specs.declared.answer.Cut.{Cut}
 use Rattle.match_rules.specs.declared.answer.Prices.{Prices}
 use Rattle.match_rules.specs.declared.answer.Side.{Side}
 use Rattle.match_rules.specs.declared.answer.Side.TheVariants.{Into, OutOf}
-use Rattle.match_rules.specs.Rules.{RulesValue}
-use Rattle.match_rules.specs.Groups.{group_count, paper_of_group}
+use Rattle.match_rules.specs.Rules.{RulesValue, most_score}
+use Rattle.match_rules.specs.Groups.{group_count}
 use Rattle.match_rules.specs.Answers.{IsWithin}
+use Rattle.bounded_network.specs.declared.network.TheConstants.{MAX_NODES}
 use Rattle.bounded_network.specs.Network.{potential_at, is_marked}
-use Rattle.bounded_network.specs.Compile.{listed, group_node, reviewer_node, hub, node_count}
+use Rattle.bounded_network.specs.Compile.{listed, group_node, parent_of, reviewer_node, hub, node_count}
 
--- each potential is within the greatest magnitude of a cost, times the number of nodes
+-- each potential is within the greatest magnitude of a score, times the number of nodes
 abbrev pub AreWithinCosts : RulesValue → List ℤ → Type 0
-AreWithinCosts rules potentials = (v : ℕ) → IsWithin (8000000000 * node_count rules) (potential_at potentials v)
+AreWithinCosts rules potentials = (v : ℕ) → IsWithin (most_score * node_count rules) (potential_at potentials v)
 
--- a potential that is far from the ends of 64 bits
+-- the greatest magnitude of a potential, whatever the rules
+abbrev pub most_potential : ℕ
+most_potential = most_score * MAX_NODES
+
+-- so a potential is far from the ends of 64 bits
 abbrev pub IsNear : ℤ → Type 0
-IsNear z = IsWithin 2500000000000000 z
+IsNear z = IsWithin most_potential z
 
 -- a paper's price is what the potential rises from the hub to the paper
 abbrev pub paper_price_in : RulesValue → List ℤ → ℕ → ℤ
 paper_price_in rules potentials p = potential_at potentials p -ℤ potential_at potentials (hub rules)
 
--- a group's price is what it rises from the group's paper to the group
+-- a group's price is what it rises from the group's parent to the group
 abbrev pub group_price_in : RulesValue → List ℤ → ℕ → ℤ
-group_price_in rules potentials g = potential_at potentials (group_node rules g) -ℤ potential_at potentials (paper_of_group rules g)
+group_price_in rules potentials g = potential_at potentials (group_node rules g) -ℤ potential_at potentials (parent_of rules g)
 
 -- a reviewer's price is what it rises from the reviewer to the hub
 abbrev pub reviewer_price_in : RulesValue → List ℤ → ℕ → ℤ

@@ -16,6 +16,19 @@ abbrev pub listed : {X : Type 0} → ℕ → (ℕ → X) → List X
 listed zero f = []
 listed (suc n) f = listed n f ++ (f n ∷ [])
 
+-- a part of a list: so many entries
+pub record Part (X : Type 0) : Type 0 where
+  pub size : ℕ
+  pub entry : ℕ → X
+
+abbrev pub part : {X : Type 0} → ℕ → (ℕ → X) → Part X
+part size entry = record { size = size; entry = entry }
+
+-- one part after another
+abbrev pub joined : {X : Type 0} → List (Part X) → List X
+joined [] = []
+joined (one ∷ parts) = listed one.size one.entry ++ joined parts
+
 -- the nodes are the papers, then the groups, then the reviewers, and the hub
 abbrev pub group_node : RulesValue → ℕ → ℕ
 group_node rules g = length rules.papers + g
@@ -28,6 +41,10 @@ hub rules = (length rules.papers + group_count rules) + length rules.reviewers
 
 abbrev pub node_count : RulesValue → ℕ
 node_count rules = hub rules + 1
+
+-- the node that a group's amount comes from: its paper
+abbrev pub parent_of : RulesValue → ℕ → ℕ
+parent_of rules g = paper_of_group rules g
 
 -- the node that a pair's amount comes from: its group where it has one, else its paper
 abbrev pub tail_of : RulesValue → ℕ → ℕ
@@ -53,10 +70,10 @@ paper_arc rules spans p = record {
   cost = pos 0;
 }
 
--- a group's amount comes from its paper
+-- a group's amount comes from its parent
 abbrev pub group_arc : RulesValue → Spans → ℕ → Arc
 group_arc rules spans g = record {
-  tail = paper_of_group rules g;
+  tail = parent_of rules g;
   head = group_node rules g;
   floor = (spans.of_groups g).floor;
   room = (spans.of_groups g).room;
@@ -73,12 +90,34 @@ reviewer_arc rules spans r = record {
   cost = pos 0;
 }
 
--- one entry for each pair, then for each paper, each group and each reviewer
+-- the parts of a list of all pairs, papers, groups and reviewers, in this order
+abbrev pub parts_of : {X : Type 0} → RulesValue → (ℕ → X) → (ℕ → X) → (ℕ → X) → (ℕ → X) → List (Part X)
+parts_of rules of_pair of_paper of_group of_reviewer =
+    part (length rules.pairs) of_pair
+    ∷ (part (length rules.papers) of_paper
+    ∷ (part (group_count rules) of_group
+    ∷ (part (length rules.reviewers) of_reviewer
+    ∷ [])))
+
+-- one entry for each of them
 abbrev pub in_parts : {X : Type 0} → RulesValue → (ℕ → X) → (ℕ → X) → (ℕ → X) → (ℕ → X) → List X
-in_parts rules of_pair of_paper of_group of_reviewer =
-    ((listed (length rules.pairs) of_pair ++ listed (length rules.papers) of_paper)
-    ++ listed (group_count rules) of_group)
-    ++ listed (length rules.reviewers) of_reviewer
+in_parts rules of_pair of_paper of_group of_reviewer = joined (parts_of rules of_pair of_paper of_group of_reviewer)
+
+-- the places of their entries
+abbrev pub pair_place : RulesValue → ℕ → ℕ
+pair_place rules e = e
+
+abbrev pub paper_place : RulesValue → ℕ → ℕ
+paper_place rules p = length rules.pairs + p
+
+abbrev pub group_place : RulesValue → ℕ → ℕ
+group_place rules g = length rules.pairs + (length rules.papers + g)
+
+abbrev pub reviewer_place : RulesValue → ℕ → ℕ
+reviewer_place rules r = length rules.pairs + (length rules.papers + (group_count rules + r))
+
+abbrev pub place_count : RulesValue → ℕ
+place_count rules = reviewer_place rules (length rules.reviewers)
 
 -- the network of rules with bounds
 abbrev pub network_of : RulesValue → Spans → NetworkValue
@@ -87,7 +126,7 @@ network_of rules spans = record {
   arcs = in_parts rules (pair_arc rules spans) (paper_arc rules spans) (group_arc rules spans) (reviewer_arc rules spans);
 }
 
--- the amounts of the pairs in a flow
+-- the amounts of the pairs in a flow, which stand first
 abbrev pub amounts_in : RulesValue → List ℕ → List ℕ
 amounts_in rules flow = take (length rules.pairs) flow
 

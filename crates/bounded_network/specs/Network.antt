@@ -1,5 +1,5 @@
 -- Networks, circulations, their costs, potentials, and the marks that show that there is no circulation.
-use Rattle.std.specs.Prelude.{ℕ, ◌≡◌, ◌<◌, ◌≤◌, ◌==◌, ◌&&◌, not, Bool, false, List, length, slice_index, slice_index_or, ℤ, pos, neg_ℤ, ◌+ℤ◌, ◌-ℤ◌, ◌*ℤ◌, ◌≤ℤ◌}
+use Rattle.std.specs.Prelude.{ℕ, ◌≡◌, ◌<◌, ◌≤◌, ◌==◌, ◌&&◌, not, Bool, false, List, length, slice_index, slice_index_or, slice_set, ℤ, pos, neg_ℤ, ◌+ℤ◌, ◌-ℤ◌, ◌*ℤ◌, ◌≤ℤ◌}
 use Rattle.match_rules.specs.Sums.{sum_below, count_below, when}
 use Rattle.bounded_network.specs.declared.network.Arc.{Arc}
 use Rattle.bounded_network.specs.declared.network.TheConstants.{MAX_NODES, MAX_ARCS, MAX_ROOM, MAX_COST}
@@ -24,6 +24,10 @@ no_arc = record { tail = 0; head = 0; floor = 0; room = 0; cost = pos 0 }
 -- the arc at a place
 abbrev pub arc_at : NetworkValue → ℕ → Arc
 arc_at net a = slice_index_or net.arcs a no_arc
+
+-- the network with other bounds of the arc at a place
+abbrev pub with_bounds : NetworkValue → ℕ → ℕ → ℕ → NetworkValue
+with_bounds net a floor room = record net { arcs = slice_set net.arcs a (record (arc_at net a) { floor = floor; room = room }) }
 
 -- a network within the limits
 pub record IsNetwork (net : NetworkValue) : Type 0 where

@@ -8,7 +8,7 @@ ghost use Rattle.bounded_network.specs.Spans.{spans_of, CanDivide};
 ghost use Rattle.bounded_network.specs.Totals.{AreTotals};
 
 use crate::bounds::{group_span, pair_span, paper_span, reviewer_span};
-use crate::layout::{group_node_of, hub_of, reviewer_node_of, tail};
+use crate::layout::{group_node_of, hub_of, parent, reviewer_node_of, tail};
 use crate::network::Arc;
 use crate::spans::{Amounts, Span};
 use crate::totals::Totals;
@@ -96,7 +96,7 @@ fn push_groups(
 {
     for g in 0..rules.group_count() {
         let span = group_span(rules, sieve, amounts, totals, g);
-        arcs.push(arc(rules.group_at(g).paper, group_node_of(rules, g), span, 0))?;
+        arcs.push(arc(parent(rules, g), group_node_of(rules, g), span, 0))?;
     }
     Ok(())
 }

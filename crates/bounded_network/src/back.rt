@@ -4,6 +4,7 @@ ghost use Rattle.std.specs.Prelude.{◌≡◌, ℕ, List, ◌<◌, ◌≤◌, le
 ghost use Rattle.match_rules.specs.Answers.{CutMatches, PricesMatch};
 ghost use Rattle.match_rules.specs.Evidence.{bound, need, room, Violated};
 ghost use Rattle.match_rules.specs.Groups.{group_count};
+ghost use Rattle.match_rules.specs.Plain.{Plain};
 ghost use Rattle.match_rules.specs.Rules.{AreRules};
 ghost use Rattle.match_rules.specs.SharesFit.{SharesFit, shares_score};
 ghost use Rattle.bounded_network.specs.Back.{AreWithinCosts, IsNear, paper_price_in, group_price_in, reviewer_price_in, prices_in, places_where, is_apart, cut_in};
@@ -11,7 +12,7 @@ ghost use Rattle.bounded_network.specs.Compile.{listed, node_count, hub, group_n
 ghost use Rattle.bounded_network.specs.Network.{IsCirculation, AreOptimal, AreViolated, floors_into, rooms_out_of, potential_at, is_marked};
 ghost use Rattle.bounded_network.specs.Spans.{ticket_spans};
 
-use crate::layout::{group_node_of, hub_of, reviewer_node_of};
+use crate::layout::{group_node_of, hub_of, parent, reviewer_node_of};
 use match_rules::{Cut, Places, PriceList, Prices, Rules, Shares, Side, Sieve};
 use std::alloc::{AllocError, Global};
 
@@ -22,7 +23,8 @@ pub fn shares_of(
     sieve: Sieve,
     flow: &[u64],
 ) -> Result<Shares, AllocError>
-    requires { IsCirculation (network_of rules.now (ticket_spans rules.now sieve)) flow.now }
+    requires plain { Plain rules.now }
+    requires circulates { IsCirculation (network_of rules.now (ticket_spans rules.now sieve)) flow.now }
     ensures value { IfOk result (λ shares. shares ≡ amounts_in rules.now flow.now) }
     ensures fit { IfOk result (SharesFit rules.now sieve) }
 {
@@ -69,9 +71,9 @@ fn group_prices(alloc: Global, rules: &Rules, potentials: &[i64]) -> Result<Vec<
     let count = rules.group_count();
     let mut prices = Vec::with_capacity(alloc, count as usize)?;
     for g in 0..count {
-        let paper = rules.group_at(g).paper;
+        let parent = parent(rules, g);
         let group = group_node_of(rules, g);
-        prices.push(rise(potentials, paper, group))?;
+        prices.push(rise(potentials, parent, group))?;
     }
     Ok(prices)
 }
@@ -93,7 +95,7 @@ fn reviewer_prices(alloc: Global, rules: &Rules, potentials: &[i64]) -> Result<V
 }
 
 /// The prices of potentials of the network of the same rules and sieve, compiled with `Tickets`: what the potential rises
-/// from the hub to a paper, from its paper to a group, and from a reviewer to the hub. Their bound is the score of every
+/// from the hub to a paper, from its parent to a group, and from a reviewer to the hub. Their bound is the score of every
 /// circulation that is optimal at the potentials.
 pub fn prices_of(
     alloc: Global,
@@ -101,6 +103,7 @@ pub fn prices_of(
     sieve: Sieve,
     potentials: &[i64],
 ) -> Result<Prices, AllocError>
+    requires plain { Plain rules.now }
     requires long { length potentials.now ≡ node_count rules.now }
     requires within { AreWithinCosts rules.now potentials.now }
     ensures value { IfOk result (λ prices. prices ≡ prices_in rules.now potentials.now) }
@@ -180,6 +183,7 @@ fn reviewers_across(alloc: Global, rules: &Rules, marks: &[bool]) -> Result<Vec<
 /// reviewers on the other side than the hub, into them where they are the marked ones, and out of them where the hub is
 /// marked. What has to pass it is the floors that enter the marks, and what may pass it the rooms that leave them.
 pub fn cut_of(alloc: Global, rules: &Rules, sieve: Sieve, marks: &[bool]) -> Result<Cut, AllocError>
+    requires plain { Plain rules.now }
     requires long { length marks.now ≡ node_count rules.now }
     requires broken { AreViolated (network_of rules.now (ticket_spans rules.now sieve)) marks.now }
     ensures value { IfOk result (λ cut. cut ≡ cut_in rules.now marks.now) }

@@ -2,6 +2,7 @@
 
 ghost use Rattle.std.specs.Prelude.{◌≡◌, ◌*◌, ◌==◌, ◌||◌, ◌<◌, ◌≤◌, length};
 ghost use Rattle.match_rules.specs.Assignments.{cap_under, lets_pass};
+ghost use Rattle.match_rules.specs.declared.rules.TheConstants.{MOST_LOAD};
 ghost use Rattle.match_rules.specs.Groups.{group_count};
 ghost use Rattle.bounded_network.specs.Spans.{rounded, spans_of, CanDivide};
 ghost use Rattle.bounded_network.specs.Totals.{AreTotals};
@@ -52,7 +53,7 @@ fn rounded_span(left: u32, amount: u64) -> Span
 
 // Tickets for so many.
 fn all_tickets(rules: &Rules, times: u32) -> u64
-    requires { times ≤ 1500 }
+    requires { times ≤ MOST_LOAD }
     ensures { result ≡ rules.now.tickets * times }
 {
     u64::from(rules.tickets()) * u64::from(times)

@@ -5,9 +5,9 @@ ghost use Rattle.match_rules.specs.declared.answer.Sieve.TheVariants.{All as Eve
 ghost use Rattle.match_rules.specs.Examples.{small, small_locked, one_house, empty_rules, cut_into, cut_out_of, prices};
 ghost use Rattle.match_rules.specs.SharesFit.{shares_score};
 ghost use Rattle.bounded_network.specs.Back.{cut_in, prices_in};
-ghost use Rattle.bounded_network.specs.Compile.{network_of, node_count, flow_of};
-ghost use Rattle.bounded_network.specs.Examples.{arc, network};
-ghost use Rattle.bounded_network.specs.Network.{arc_at, floors_into, rooms_out_of, flow_cost};
+ghost use Rattle.bounded_network.specs.Compile.{parent_of, paper_place, group_place, reviewer_place, place_count, network_of, node_count, flow_of};
+ghost use Rattle.bounded_network.specs.Examples.{arc, network, two_nodes};
+ghost use Rattle.bounded_network.specs.Network.{arc_at, with_bounds, floors_into, rooms_out_of, flow_cost};
 ghost use Rattle.bounded_network.specs.Spans.{span, rounded, rounded_spans, ticket_spans};
 
 /// Networks of small rules.
@@ -34,6 +34,12 @@ pub fn worked_networks()
     ensures house_group { arc_at (network one_house) 3 ≡ arc 0 1 0 10000 (pos 0) }
     ensures house_need { floors_into (network one_house) (true ∷ []) ≡ 20000 }
     ensures house_room { rooms_out_of (network one_house) (true ∷ []) ≡ 10000 }
+    // Its arcs: two pairs, the paper, its group, two reviewers.
+    ensures house_paper_place { paper_place one_house 0 ≡ 2 }
+    ensures house_group_place { group_place one_house 0 ≡ 3 }
+    ensures house_reviewer_place { reviewer_place one_house 0 ≡ 4 }
+    ensures house_arcs { place_count one_house ≡ 6 }
+    ensures house_parent { parent_of one_house 0 ≡ 0 }
     // No rules: the hub alone.
     ensures empty_nodes { node_count empty_rules ≡ 1 }
     ensures empty_arcs { (network empty_rules).arcs ≡ [] }
@@ -49,4 +55,7 @@ pub fn worked_networks()
     ensures above { rounded 3 7 ≡ span 2 3 }
     ensures rounded_pair { arc_at (network_of (small 7000) (rounded_spans (small 7000) (7000 ∷ (3000 ∷ (3000 ∷ (7000 ∷ [])))) 10000)) 0 ≡ arc 0 2 0 1 (pos 0) }
     ensures rounded_paper { arc_at (network_of (small 7000) (rounded_spans (small 7000) (7000 ∷ (3000 ∷ (3000 ∷ (7000 ∷ [])))) 10000)) 4 ≡ arc 4 0 1 1 (pos 0) }
+    // Other bounds of one arc.
+    ensures rebounded { with_bounds two_nodes 1 0 1 ≡ record { nodes = 2; arcs = arc 0 1 1 3 (neg_ℤ (pos 5)) ∷ (arc 1 0 0 1 (pos 1) ∷ []) } }
+    ensures rebounded_past { with_bounds two_nodes 2 0 1 ≡ two_nodes }
 {}

@@ -4,7 +4,7 @@ ghost use Rattle.std.specs.Prelude.{◌≡◌, ◌<◌, length};
 ghost use Rattle.match_rules.specs.Groups.{group_count};
 ghost use Rattle.match_rules.specs.Rules.{AreRules};
 ghost use Rattle.bounded_network.specs.declared.network.TheConstants.{MAX_NODES};
-ghost use Rattle.bounded_network.specs.Compile.{group_node, reviewer_node, hub, tail_of};
+ghost use Rattle.bounded_network.specs.Compile.{group_node, parent_of, reviewer_node, hub, tail_of};
 
 use match_rules::Rules;
 
@@ -15,6 +15,17 @@ pub fn group_node_of(rules: &Rules, group: u32) -> u32
     ensures small { result < MAX_NODES }
 {
     rules.papers().len() as u32 + group
+}
+
+// The node that a group's amount comes from.
+pub fn parent(rules: &Rules, group: u32) -> u32
+    requires { group < group_count rules.now }
+    ensures value { result ≡ parent_of rules.now group }
+    ensures below { result < hub rules.now }
+{
+    // The rules keep their conditions.
+    let _pairs = rules.pairs();
+    rules.group_at(group).paper
 }
 
 // The node of a reviewer.

@@ -15,6 +15,7 @@ mod examples;
 mod layout;
 mod limits;
 mod network;
+mod places;
 mod spans;
 mod totals;
 
@@ -23,5 +24,6 @@ pub use compiling::compile;
 pub use evidence::{optimal_is_cheapest, violated_excludes};
 pub use examples::worked_networks;
 pub use network::{Arc, MAX_ARCS, MAX_COST, MAX_NODES, MAX_ROOM, Network};
+pub use places::place_laws;
 pub use spans::{Amounts, Span};
 pub use totals::amounts_of;

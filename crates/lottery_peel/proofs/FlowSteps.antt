@@ -8,28 +8,13 @@ use Rattle.match_rules.specs.Groups.{group_count, is_in_group}
 use Rattle.match_rules.specs.Answers.{shares_where}
 use Rattle.match_rules.specs.SharesFit.{paper_shares, group_shares, reviewer_shares}
 use Rattle.match_rules.specs.Sums.{count_below, when}
-use Rattle.bounded_network.specs.Compile.{amounts_in, flow_of}
+use Rattle.bounded_network.specs.Compile.{amounts_in, paper_place, group_place, reviewer_place, flow_of}
 use Rattle.bounded_network.specs.Spans.{AreWithin, IsBetween, rounded, rounded_spans}
-use Rattle.bounded_network.proofs.Compiled.{amount-in, flow-of_pair, flow-of_paper, flow-of_group, flow-of_reviewer}
+use Rattle.bounded_network.proofs.Compiled.{amount-in, each_amount, flow_parts, flow-length, flow-of_pair, flow-of_paper, flow-of_group, flow-of_reviewer}
 use Rattle.bounded_network.proofs.Counts.{count_below-zero}
-use Rattle.bounded_network.proofs.Parts.{length-four, each-four, count_in_four}
+use Rattle.bounded_network.proofs.Parts.{count-joined}
 use Rattle.lottery_peel.specs.Peeling.{open_part, open_count, unwhole_count, AreRounded, AreLess, IsNext, IsWeight}
 use Rattle.lottery_peel.proofs.AmountLists.{all-enough}
-
--- one amount for each pair, paper, group and reviewer
-pub flow-length : (rules : RulesValue) (amounts : List ℕ) → length (flow_of rules amounts) ≡ ((length rules.pairs + length rules.papers) + group_count rules) + length rules.reviewers
-flow-length rules amounts =
-    length-four (length rules.pairs) (length rules.papers) (group_count rules) (length rules.reviewers) (slice_index amounts) (paper_shares rules amounts) (group_shares rules amounts) (reviewer_shares rules amounts)
-
--- what holds of the amounts of each kind holds of all amounts
-pub each_amount : (rules : RulesValue) (amounts : List ℕ) (Q : ℕ → ℕ → Type 0)
-    → ((e : ℕ) → e < length rules.pairs → Q (slice_index amounts e) e)
-    → ((p : ℕ) → p < length rules.papers → Q (paper_shares rules amounts p) (length rules.pairs + p))
-    → ((g : ℕ) → g < group_count rules → Q (group_shares rules amounts g) ((length rules.pairs + length rules.papers) + g))
-    → ((r : ℕ) → r < length rules.reviewers → Q (reviewer_shares rules amounts r) (((length rules.pairs + length rules.papers) + group_count rules) + r))
-    → (a : ℕ) → a < length (flow_of rules amounts) → Q (slice_index (flow_of rules amounts) a) a
-each_amount rules amounts Q pairs papers groups reviewers a lt =
-    each-four (length rules.pairs) (length rules.papers) (group_count rules) (length rules.reviewers) (slice_index amounts) (paper_shares rules amounts) (group_shares rules amounts) (reviewer_shares rules amounts) 0 Q pairs papers groups reviewers a lt
 
 -- ---- what is given
 
@@ -76,8 +61,6 @@ pub within-rounded : (rules : RulesValue) (shares : List ℕ) (left : ℕ) (coun
 within-rounded rules shares left counts rounds flows =
     let chosen : List ℕ = amounts_in rules counts in
     let k : ℕ = length rules.pairs in
-    let papers : ℕ = length rules.papers in
-    let groups : ℕ = group_count rules in
     let size = flow-length rules shares in
     let long = rounds.long in
     let at : (a x y : ℕ) → a < length (flow_of rules shares) → slice_index (flow_of rules shares) a ≡ x → slice_index counts a ≡ y → IsBetween (rounded left x) y =
@@ -85,9 +68,9 @@ within-rounded rules shares left counts rounds flows =
     record {
       long = length-take-le k counts (omega arith);
       pairs = λ e lt. at e _ _ (omega arith) (flow-of_pair rules shares e lt) (sym (amount-in rules counts e lt));
-      papers = λ p lt. at (k + p) _ _ (omega arith) (flow-of_paper rules shares p lt) (ap (λ xs. slice_index xs (k + p)) flows ∙ flow-of_paper rules chosen p lt);
-      of_groups = λ g lt. at ((k + papers) + g) _ _ (omega arith) (flow-of_group rules shares g lt) (ap (λ xs. slice_index xs ((k + papers) + g)) flows ∙ flow-of_group rules chosen g lt);
-      reviewers = λ r lt. at (((k + papers) + groups) + r) _ _ (omega arith) (flow-of_reviewer rules shares r lt) (ap (λ xs. slice_index xs (((k + papers) + groups) + r)) flows ∙ flow-of_reviewer rules chosen r lt);
+      papers = λ p lt. at (paper_place rules p) _ _ (omega arith) (flow-of_paper rules shares p lt) (ap (λ xs. slice_index xs (paper_place rules p)) flows ∙ flow-of_paper rules chosen p lt);
+      of_groups = λ g lt. at (group_place rules g) _ _ (omega arith) (flow-of_group rules shares g lt) (ap (λ xs. slice_index xs (group_place rules g)) flows ∙ flow-of_group rules chosen g lt);
+      reviewers = λ r lt. at (reviewer_place rules r) _ _ (omega arith) (flow-of_reviewer rules shares r lt) (ap (λ xs. slice_index xs (reviewer_place rules r)) flows ∙ flow-of_reviewer rules chosen r lt);
     }
 
 -- and the way back: a flow whose pairs and sums are rounded amounts is a next assignment
@@ -96,16 +79,14 @@ pub next-of_within : (rules : RulesValue) (rest : List ℕ) (left : ℕ) (counts
 next-of_within rules rest left counts within flows =
     let chosen : List ℕ = amounts_in rules counts in
     let k : ℕ = length rules.pairs in
-    let papers : ℕ = length rules.papers in
-    let groups : ℕ = group_count rules in
     record {
       rounds = record {
         long = ap length flows ∙ flow-length rules chosen ∙ sym (flow-length rules rest);
         each = each_amount rules rest (λ y a. IsBetween (rounded left y) (slice_index counts a))
             (λ e lt. subst (IsBetween (rounded left (slice_index rest e))) (amount-in rules counts e lt) (within.pairs e lt))
-            (λ p lt. subst (IsBetween (rounded left (paper_shares rules rest p))) (sym (ap (λ xs. slice_index xs (k + p)) flows ∙ flow-of_paper rules chosen p lt)) (within.papers p lt))
-            (λ g lt. subst (IsBetween (rounded left (group_shares rules rest g))) (sym (ap (λ xs. slice_index xs ((k + papers) + g)) flows ∙ flow-of_group rules chosen g lt)) (within.of_groups g lt))
-            (λ r lt. subst (IsBetween (rounded left (reviewer_shares rules rest r))) (sym (ap (λ xs. slice_index xs (((k + papers) + groups) + r)) flows ∙ flow-of_reviewer rules chosen r lt)) (within.reviewers r lt));
+            (λ p lt. subst (IsBetween (rounded left (paper_shares rules rest p))) (sym (ap (λ xs. slice_index xs (paper_place rules p)) flows ∙ flow-of_paper rules chosen p lt)) (within.papers p lt))
+            (λ g lt. subst (IsBetween (rounded left (group_shares rules rest g))) (sym (ap (λ xs. slice_index xs (group_place rules g)) flows ∙ flow-of_group rules chosen g lt)) (within.of_groups g lt))
+            (λ r lt. subst (IsBetween (rounded left (reviewer_shares rules rest r))) (sym (ap (λ xs. slice_index xs (reviewer_place rules r)) flows ∙ flow-of_reviewer rules chosen r lt)) (within.reviewers r lt));
       };
       flows = flows;
     }
@@ -125,7 +106,7 @@ next-enough rules rest left counts weight long is weighs e lt =
 pub flow-open : (rules : RulesValue) (shares : List ℕ) → ((p : ℕ) → p < length rules.papers → paper_shares rules shares p ≡ rules.tickets * (paper_at rules p).demand)
     → open_count rules.tickets (flow_of rules shares) ≡ unwhole_count rules shares
 flow-open rules shares whole =
-    let parts = count_in_four (length rules.pairs) (length rules.papers) (group_count rules) (length rules.reviewers) (slice_index shares) (paper_shares rules shares) (group_shares rules shares) (reviewer_shares rules shares) 0 (λ y a. open_part rules.tickets y) in
+    let parts = count-joined (flow_parts rules shares) 0 (λ y a. open_part rules.tickets y) (λ a. a) in
     let none = count_below-zero (length rules.papers) (λ p. open_part rules.tickets (paper_shares rules shares p))
     (λ p lt. rw (whole p lt, mul-mod_right rules.tickets (paper_at rules p).demand) refl) in
     omega (arith, parts, none)

@@ -24,10 +24,10 @@ use Rattle.match_rules.specs.SharesFit.{SharesFit, group_shares, reviewer_shares
 use Rattle.match_rules.proofs.ChosenLaws.{chosen_places-ascends, chosen-meets, chosen-rounded}
 use Rattle.bounded_network.specs.Compile.{amounts_in, flow_of}
 use Rattle.bounded_network.specs.Spans.{AreWithin, rounded, rounded_spans}
-use Rattle.bounded_network.proofs.Compiled.{flow-of_pair}
+use Rattle.bounded_network.proofs.Compiled.{flow-length, flow-of_pair}
 use Rattle.lottery_peel.specs.Peeling.{AreRounded, IsNext, IsNarrower, IsGoodPiece, same_places, IsPeeling, IsStepTo, IsPeeled}
 use Rattle.lottery_peel.proofs.AmountLists.{AreSteps, all-narrower, all-nothing, open-less, never-again, rounded-before}
-use Rattle.lottery_peel.proofs.FlowSteps.{flow-length, flow-less, flow-open, within-rounded}
+use Rattle.lottery_peel.proofs.FlowSteps.{flow-less, flow-open, within-rounded}
 use Rattle.lottery_peel.proofs.GoodSteps.{meet-within, round-within, some-tickets}
 
 -- ---- the places of counts

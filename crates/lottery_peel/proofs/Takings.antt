@@ -5,7 +5,7 @@ use Rattle.std.proofs.lemmas.List.{length-take-le}
 use Rattle.match_rules.specs.Rules.{RulesValue}
 use Rattle.bounded_network.specs.Compile.{amounts_in}
 use Rattle.lottery_peel.specs.Peeling.{IsNext}
-use Rattle.lottery_peel.proofs.FlowSteps.{flow-length}
+use Rattle.bounded_network.proofs.Compiled.{flow-length}
 
 -- the tickets of the pairs below a place are taken, and the others are as they were
 pub record IsTaken (old counts : List ℕ) (weight done : ℕ) (tickets : List ℕ) : Type 0 where

@@ -10,18 +10,18 @@ use Rattle.bounded_network.proofs.back.shares_of.Goals as goal
 pub bounds-flow-e : goal.bounds-flow-e
 bounds-flow-e c =
     let all : RulesValue = c.args.rules.now in
-    omega (arith, c.requires.long, arc_count all (ticket_spans all c.args.sieve), c.pairs-count.ensures.len)
+    omega (arith, c.requires.circulates.long, arc_count all (ticket_spans all c.args.sieve), c.pairs-count.ensures.len)
 
 pub overflow_cast-flow : goal.overflow_cast-flow
 overflow_cast-flow c =
     let all : RulesValue = c.args.rules.now in
     let below : c.loop-e.e < length all.pairs = omega (arith, c.pairs-count.ensures.len) in
-    omega (arith, circulation-small all c.args.sieve c.args.flow.now c.loop-e.e c.pairs-count.ensures.kept c.requires below, c.pairs-count.ensures.kept.tickets)
+    omega (arith, circulation-small all c.args.sieve c.args.flow.now c.loop-e.e c.pairs-count.ensures.kept c.requires.circulates below, c.pairs-count.ensures.kept.tickets)
 
 pub loop-e-preserved : goal.loop-e-preserved
 loop-e-preserved c =
     let all : RulesValue = c.args.rules.now in
-    let below : c.loop-e.e < length c.args.flow.now = omega (arith, c.requires.long, arc_count all (ticket_spans all c.args.sieve), c.pairs-count.ensures.len) in
+    let below : c.loop-e.e < length c.args.flow.now = omega (arith, c.requires.circulates.long, arc_count all (ticket_spans all c.args.sieve), c.pairs-count.ensures.len) in
     c.in_ok-push.ensures.items
     ∙ ap (λ xs. xs ++ (slice_index c.args.flow.now c.loop-e.e ∷ [])) c.loop-e.invariant
     ∙ sym (take_more c.args.flow.now c.loop-e.e 0 below)
@@ -35,4 +35,4 @@ pub returns-clause-fit : goal.returns-clause-fit
 returns-clause-fit c =
     let all : RulesValue = c.args.rules.now in
     let is : c.from_vec.result ≡ amounts_in all c.args.flow.now = returns-clause-value c in
-    rw is ((are-shares all c.args.sieve c.pairs-count.ensures.kept).fit c.args.flow.now c.requires)
+    rw is ((are-shares all c.args.sieve c.pairs-count.ensures.kept).fit c.args.flow.now c.requires.circulates)
