@@ -4,7 +4,7 @@ use Rattle.std.specs.Prelude.{◌==◌, slice_index}
 use Rattle.std.proofs.lemmas.List.{length-take-le}
 use Rattle.std.proofs.Math.Nat.{mul-mod_right}
 use Rattle.match_rules.specs.Rules.{RulesValue, pair_at, paper_at}
-use Rattle.match_rules.specs.Groups.{group_count, is_in_group}
+use Rattle.match_rules.specs.Groups.{is_in_group}
 use Rattle.match_rules.specs.Answers.{shares_where}
 use Rattle.match_rules.specs.SharesFit.{paper_shares, group_shares, reviewer_shares}
 use Rattle.match_rules.specs.Sums.{count_below, when}

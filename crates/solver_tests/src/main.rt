@@ -4,13 +4,14 @@
 //! each reviewer, where `-` is no institution, then `PAPER REVIEWER SCORE FLOOR CAP` for each pair, by their places, with white
 //! space between the words; an empty line stands between two rules. The answer is `best TOTAL places COUNT` where the prices show that
 //! the shares are best, with the places that the whole assignment of the network of rounded amounts fills, `violated` where the
-//! cut shows that no lottery fits, and `unproved` where neither shows anything.
+//! cut shows that no lottery fits, and `unproved` where neither shows anything. Last comes the cheapest circulation of two nodes
+//! after other bounds of an arc.
 #![tactic(auto)]
 
 ghost use Rattle.std.specs.Prelude.{◌≡◌, length};
 
 use anyhow::{Context, bail};
-use bounded_network::{Amounts, compile, cut_of, prices_of, shares_of};
+use bounded_network::{Amounts, Arc, Network, compile, cut_of, prices_of, shares_of};
 use dual_check::{is_best, is_violated};
 use flow_solver::{Solution, solve};
 use match_rules::{
@@ -178,6 +179,42 @@ fn show(alloc: Global, rules: &Rules) -> Result<Shown, AllocError> {
     }
 }
 
+// Two nodes with an arc there, which earns 5 a unit, and one back: sets the bounds of the second arc, and those of a third
+// one, which there isn't, and solves.
+fn show_rebound(rt: &HostRuntime) -> anyhow::Result<()> {
+    let alloc = rt.alloc();
+    let there = Arc {
+        tail: 0,
+        head: 1,
+        floor: 1,
+        room: 3,
+        cost: -5,
+    };
+    let back = Arc {
+        tail: 1,
+        head: 0,
+        floor: 0,
+        room: 2,
+        cost: 1,
+    };
+    let Ok(mut net) = Network::new(2, vec![in alloc; there, back]?) else {
+        bail!("the network is past a limit");
+    };
+    let second = net.rebound(1, 0, 1);
+    let third = net.rebound(2, 0, 1);
+    println!(rt; "rebound {second} {third}")?;
+    if let Solution::Solved {
+        flow,
+        potentials: _potentials,
+    } = solve(alloc, &net)?
+    {
+        for amount in flow.as_slice() {
+            println!(rt; "flow {amount}")?;
+        }
+    }
+    Ok(())
+}
+
 fn run(rt: &HostRuntime) -> anyhow::Result<()> {
     let alloc = rt.alloc();
     let mut bytes = Vec::new(alloc);
@@ -190,7 +227,7 @@ fn run(rt: &HostRuntime) -> anyhow::Result<()> {
             Shown::Nothing => println!(rt; "unproved")?,
         }
     }
-    Ok(())
+    show_rebound(rt)
 }
 
 fn main(rt: HostRuntime) -> anyhow::Result<()> {
