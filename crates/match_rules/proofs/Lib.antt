@@ -22,3 +22,4 @@ pub mod SieveLaws
 pub mod Soundness
 pub mod SumLaws
 pub mod Totals
+pub mod Draws

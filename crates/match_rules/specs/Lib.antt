@@ -18,3 +18,4 @@ pub mod Sieves
 pub mod Sound
 pub mod Sums
 pub mod Thresholds
+pub mod Drawing

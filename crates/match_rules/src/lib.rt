@@ -5,6 +5,7 @@ mod answer;
 mod breaks;
 mod check;
 mod chosen;
+mod drawing;
 mod examples;
 mod group_check;
 mod groups;
@@ -27,6 +28,7 @@ pub use answer::{
 pub use breaks::Break;
 pub use check::{Scratch, first_break};
 pub use chosen::chosen_places;
+pub use drawing::{piece_of, worked_draws};
 pub use examples::{
     worked_breaks, worked_cuts, worked_groups, worked_ids, worked_sieves, worked_totals,
 };
