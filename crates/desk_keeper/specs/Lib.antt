@@ -1,1 +1,4 @@
 pub mod Keepers
+pub mod Names
+pub mod Rows
+pub mod Reading

@@ -3,6 +3,11 @@
 
 mod keeper;
 mod memory;
+mod names;
+mod reading;
+mod words;
 
 pub use keeper::{KeepFault, Keeper};
 pub use memory::{MemoryKeeper, SureKeeper};
+pub use names::{is_chair_name, is_source_name};
+pub use words::{Bytes, Command, EditWords, HowWords, Kept, Name, Named, RowFault, TableWords};

@@ -1,0 +1,194 @@
+// Rows as they are read: each function answers what the bytes spell.
+
+ghost use Rattle.std.specs.Prelude.{◌≡◌, ◌∷◌, [], None, Some, MatchOption, length, codes};
+ghost use Rattle.std.specs.Option.{option_map};
+ghost use Rattle.text_lines.specs.Fields.{fields, four_of};
+ghost use Rattle.desk_keeper.specs.Rows.{are_edit_words};
+ghost use Rattle.desk_keeper.specs.Reading.{Decodes, number_in, how_in, mode_in, table_in, values_in, has_length, needs, edit_in, submit_in, publish_in, draw_in, command_in, head_in, line_in, lottery_in, kept_in};
+
+use crate::names::{is_chair_name, is_source_name};
+use crate::words::{Bytes, Command, EditWords, HowWords, Kept, Name, Named, RowFault, TableWords};
+use match_rules::Mode;
+use std::alloc::Global;
+use text_lines::{MOST_AMOUNT, first_field, is_canonical, number_up_to, two_fields};
+
+fn number_in(field: &str) -> Option<u64>
+    ensures { result ≡ number_in field.now }
+{
+    let text = field.as_bytes();
+    if !is_canonical(text) {
+        return None;
+    }
+    number_up_to(text, MOST_AMOUNT)
+}
+
+fn how_in(field: &str) -> Option<HowWords>
+    ensures { result ≡ how_in field.now }
+{
+    if field == "merge" {
+        return Some(HowWords::Merge);
+    }
+    if field == "replace" {
+        return Some(HowWords::Replace);
+    }
+    None
+}
+
+fn mode_in(field: &str) -> Option<Mode>
+    ensures { result ≡ mode_in field.now }
+{
+    if field == "whole" {
+        return Some(Mode::Whole);
+    }
+    if field == "fair" {
+        return Some(Mode::Fair);
+    }
+    None
+}
+
+// Whether the field spells the length of the body.
+fn has_length(field: &str, body: &[u8]) -> bool
+    ensures { needs result ≡ has_length field.now body.now }
+{
+    match number_in(field) {
+        Some(count) => count == body.len() as u64,
+        None => false,
+    }
+}
+
+// The source of a table of values.
+fn source_in(field: &str) -> Option<&str>
+    ensures { MatchOption result (values_in field.now ≡ None) (λ source. values_in field.now ≡ Some (TableWords.Values source.now)) }
+{
+    field.strip_prefix("values-")
+}
+
+fn values_in(alloc: Global, field: &str) -> Result<TableWords, RowFault>
+    ensures { Decodes result (values_in field.now) }
+{
+    let Some(source) = source_in(field) else {
+        return Err(RowFault::BadRow);
+    };
+    match Name::read(alloc, source) {
+        Ok(source) => Ok(TableWords::Values { source }),
+        Err(_) => Err(RowFault::Memory),
+    }
+}
+
+fn table_in(alloc: Global, field: &str) -> Result<TableWords, RowFault>
+    ensures { Decodes result (table_in field.now) }
+{
+    match field {
+        "settings" => Ok(TableWords::Settings),
+        "papers" => Ok(TableWords::Papers),
+        "reviewers" => Ok(TableWords::Reviewers),
+        "bids" => Ok(TableWords::Bids),
+        "marks" => Ok(TableWords::Marks),
+        "caps" => Ok(TableWords::Caps),
+        _ => values_in(alloc, field),
+    }
+}
+
+// Whether the settings are replaced alone, and values are those of a source.
+fn are_edit_words(table: &TableWords, how: HowWords) -> bool
+    ensures { result ≡ are_edit_words table.now how }
+{
+    match table {
+        TableWords::Settings => matches!(how, HowWords::Replace),
+        TableWords::Values { source } => is_source_name(source.as_str()),
+        _ => true,
+    }
+}
+
+// The four fields of a line, where it has just four.
+fn four_fields(line: &str) -> Option<(&str, &str, &str, &str)>
+    ensures { option_map (λ parts. (parts.0.now, parts.1.now, parts.2.now, parts.3.now)) result ≡ four_of (fields line.now) }
+{
+    let (first, rest) = first_field(line)?;
+    let (second, rest) = first_field(rest)?;
+    let (third, fourth) = two_fields(rest)?;
+    Some((first, second, third, fourth))
+}
+
+// The words and the body of an edit.
+#[tactic(auto, unfolding(crate::specs::Reading::edit_in))]
+fn edit_in(alloc: Global, line: &str, body: &[u8]) -> Result<Command, RowFault>
+    ensures { Decodes result (edit_in (fields line.now) body.now) }
+{
+    let Some((base, table, how, length)) = four_fields(line) else {
+        return Err(RowFault::BadRow);
+    };
+    let Some(base) = number_in(base) else {
+        return Err(RowFault::BadRow);
+    };
+    let table = match table_in(alloc, table) {
+        Ok(table) => table,
+        Err(fault) => return Err(fault),
+    };
+    let Some(how) = how_in(how) else {
+        return Err(RowFault::BadRow);
+    };
+    if !are_edit_words(&table, how) {
+        return Err(RowFault::BadRow);
+    }
+    if !has_length(length, body) {
+        return Err(RowFault::BadRow);
+    }
+    match Bytes::read(alloc, body) {
+        Ok(body) => Ok(Command::Edit {
+            base,
+            edit: EditWords { table, how, body },
+        }),
+        Err(_) => Err(RowFault::Memory),
+    }
+}
+
+#[tactic(auto, unfolding(crate::specs::Reading::submit_in))]
+fn submit_in(line: &str, body: &[u8]) -> Option<Command>
+    ensures { result ≡ submit_in (fields line.now) body.now }
+{
+    let (base, mode) = two_fields(line)?;
+    let base = number_in(base)?;
+    let mode = mode_in(mode)?;
+    if !body.is_empty() {
+        return None;
+    }
+    Some(Command::Submit { base, mode })
+}
+
+#[tactic(auto, unfolding(crate::specs::Reading::publish_in))]
+fn publish_in(line: &str, body: &[u8]) -> Option<Command>
+    ensures { result ≡ publish_in (fields line.now) body.now }
+{
+    let (job, length) = two_fields(line)?;
+    let job = number_in(job)?;
+    if !has_length(length, body) {
+        return None;
+    }
+    Some(Command::Publish { job })
+}
+
+// The publication of a draw, where the line also spells the length of the text.
+#[tactic(auto, unfolding(crate::specs::Reading::draw_in))]
+fn publication_in(line: &str, text: &[u8]) -> Option<u64>
+    ensures { option_map (λ publication. Command.Draw publication text.now) result ≡ draw_in (fields line.now) text.now }
+{
+    let (publication, length) = two_fields(line)?;
+    let publication = number_in(publication)?;
+    if !has_length(length, text) {
+        return None;
+    }
+    Some(publication)
+}
+
+fn draw_in(alloc: Global, line: &str, text: &[u8]) -> Result<Command, RowFault>
+    ensures { Decodes result (draw_in (fields line.now) text.now) }
+{
+    let Some(publication) = publication_in(line, text) else {
+        return Err(RowFault::BadRow);
+    };
+    match Bytes::read(alloc, text) {
+        Ok(text) => Ok(Command::Draw { publication, text }),
+        Err(_) => Err(RowFault::Memory),
+    }
+}
