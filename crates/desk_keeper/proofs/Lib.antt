@@ -1,1 +1,2 @@
 pub mod KeeperLaws
+pub mod ReadingLaws

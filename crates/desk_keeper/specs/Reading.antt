@@ -119,16 +119,20 @@ pub record HeadFields : Type 0 where
   pub number : ℕ
   pub own : List (List ℕ)
 
--- the first three fields, where more follow
+-- what the first three fields and the others say
+abbrev pub head_from : List ℕ → List ℕ → List ℕ → List (List ℕ) → Option HeadFields
+head_from word caller number own = do
+  named ← needs (is_chair_name caller)
+  n ← number_in number
+  Some (record { word = word; caller = caller; number = n; own = own })
+
+-- there have to be others
 abbrev pub head_in : List (List ℕ) → Option HeadFields
 head_in [] = None
 head_in (a ∷ []) = None
 head_in (a ∷ b ∷ []) = None
 head_in (a ∷ b ∷ c ∷ []) = None
-head_in (a ∷ b ∷ c ∷ d ∷ parts) = do
-  named ← needs (is_chair_name b)
-  number ← number_in c
-  Some (record { word = a; caller = b; number = number; own = d ∷ parts })
+head_in (a ∷ b ∷ c ∷ d ∷ parts) = head_from a b c (d ∷ parts)
 
 -- ---- the row
 

@@ -1,15 +1,18 @@
 // Rows as they are read: each function answers what the bytes spell.
 
-ghost use Rattle.std.specs.Prelude.{◌≡◌, ◌∷◌, [], None, Some, MatchOption, length, codes};
+ghost use Rattle.std.specs.Prelude.{◌≡◌, ◌∷◌, [], None, Some, MatchOption, IfOk, length, codes};
+ghost use Rattle.std.specs.List.{position_or_len};
 ghost use Rattle.std.specs.Option.{option_map};
+ghost use Rattle.text_lines.specs.Reading.{is_feed};
 ghost use Rattle.text_lines.specs.Fields.{fields, four_of};
 ghost use Rattle.desk_keeper.specs.Rows.{are_edit_words};
-ghost use Rattle.desk_keeper.specs.Reading.{Decodes, number_in, how_in, mode_in, table_in, values_in, has_length, needs, edit_in, submit_in, publish_in, draw_in, command_in, head_in, line_in, lottery_in, kept_in};
+ghost use Rattle.desk_keeper.specs.Reading.{Decodes, number_in, how_in, mode_in, table_in, values_in, has_length, needs, edit_in, submit_in, publish_in, draw_in, command_in, head_from, head_in, line_in, lottery_in, kept_in};
 
 use crate::names::{is_chair_name, is_source_name};
 use crate::words::{Bytes, Command, EditWords, HowWords, Kept, Name, Named, RowFault, TableWords};
 use match_rules::Mode;
-use std::alloc::Global;
+use memchr::memchr;
+use std::alloc::{AllocError, Global};
 use text_lines::{MOST_AMOUNT, first_field, is_canonical, number_up_to, two_fields};
 
 fn number_in(field: &str) -> Option<u64>
@@ -190,5 +193,90 @@ fn draw_in(alloc: Global, line: &str, text: &[u8]) -> Result<Command, RowFault>
     match Bytes::read(alloc, text) {
         Ok(text) => Ok(Command::Draw { publication, text }),
         Err(_) => Err(RowFault::Memory),
+    }
+}
+
+// A command by its word, the line of its own fields, and its body.
+fn command_in(
+    alloc: Global,
+    word: &str,
+    line: &str,
+    body: &[u8],
+) -> Result<Command, RowFault>
+    ensures { Decodes result (command_in word.now (fields line.now) body.now) }
+{
+    match word {
+        "edit" => edit_in(alloc, line, body),
+        "submit" => submit_in(line, body).ok_or(RowFault::BadRow),
+        "publish" => publish_in(line, body).ok_or(RowFault::BadRow),
+        "draw" => draw_in(alloc, line, body),
+        _ => Err(RowFault::BadRow),
+    }
+}
+
+// The first three fields of a head line, and the line of the others.
+struct Head<'a> {
+    word: &'a str,
+    caller: &'a str,
+    number: u64,
+    own: &'a str,
+}
+
+// The first three fields of a line, and the line of the others.
+#[tactic(auto, using(crate::proofs::ReadingLaws::head_more))]
+fn three_fields(line: &str) -> Option<(&str, &str, &str, &str)>
+    ensures { MatchOption result (head_in (fields line.now) ≡ None) (λ parts. head_in (fields line.now) ≡ head_from parts.0.now parts.1.now parts.2.now (fields parts.3.now)) }
+{
+    let (first, rest) = first_field(line)?;
+    let (second, rest) = first_field(rest)?;
+    let (third, rest) = first_field(rest)?;
+    Some((first, second, third, rest))
+}
+
+fn head_in(line: &str) -> Option<Head<'_>>
+    ensures { MatchOption result (head_in (fields line.now) ≡ None) (λ head. head_in (fields line.now) ≡ Some (record {
+      word = head.word.now;
+      caller = head.caller.now;
+      number = head.number;
+      own = fields head.own.now;
+    })) }
+{
+    let (word, caller, number, own) = three_fields(line)?;
+    if !is_chair_name(caller) {
+        return None;
+    }
+    let number = number_in(number)?;
+    Some(Head {
+        word,
+        caller,
+        number,
+        own,
+    })
+}
+
+// The place of the first line feed, or the length where there is none.
+fn feed_in(row: &[u8]) -> usize
+    ensures { result ≡ position_or_len is_feed row.now }
+{
+    memchr(b'\n', row).unwrap_or(row.len())
+}
+
+// The head line of a row, without its line feed, and the bytes behind it.
+fn line_in(row: &[u8]) -> Option<(&[u8], &[u8])>
+    ensures { option_map (λ parts. (parts.0.now, parts.1.now)) result ≡ line_in row.now }
+{
+    let end = feed_in(row);
+    if end >= row.len() {
+        return None;
+    }
+    Some((&row[..end], &row[end + 1..]))
+}
+
+fn lottery_in(alloc: Global, command: &Command, body: &[u8]) -> Result<Bytes, AllocError>
+    ensures { IfOk result (λ lottery. lottery ≡ lottery_in command.now body.now) }
+{
+    match command {
+        Command::Publish { .. } => Bytes::read(alloc, body),
+        _ => Ok(Bytes::new(alloc)),
     }
 }
