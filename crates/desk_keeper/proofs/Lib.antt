@@ -1,2 +1,3 @@
 pub mod KeeperLaws
 pub mod ReadingLaws
+pub mod FieldSpells

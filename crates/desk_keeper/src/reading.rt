@@ -1,8 +1,9 @@
 // Rows as they are read: each function answers what the bytes spell.
 
-ghost use Rattle.std.specs.Prelude.{◌≡◌, ◌∷◌, [], None, Some, MatchOption, IfOk, length, codes};
+ghost use Rattle.std.specs.Prelude.{◌≡◌, ◌∷◌, [], None, Some, true, false, MatchOption, IsNone, IfSome, IfOk, length, codes};
 ghost use Rattle.std.specs.List.{position_or_len};
 ghost use Rattle.std.specs.Option.{option_map};
+ghost use Rattle.std.specs.Str.{is_utf8};
 ghost use Rattle.text_lines.specs.Reading.{is_feed};
 ghost use Rattle.text_lines.specs.Fields.{fields, four_of};
 ghost use Rattle.desk_keeper.specs.Rows.{are_edit_words};
@@ -215,6 +216,7 @@ fn command_in(
 }
 
 // The first three fields of a head line, and the line of the others.
+#[derive(Clone, Copy)]
 struct Head<'a> {
     word: &'a str,
     caller: &'a str,
@@ -278,5 +280,64 @@ fn lottery_in(alloc: Global, command: &Command, body: &[u8]) -> Result<Bytes, Al
     match command {
         Command::Publish { .. } => Bytes::read(alloc, body),
         _ => Ok(Bytes::new(alloc)),
+    }
+}
+
+fn text_in(line: &[u8]) -> Option<&str>
+    ensures none { IsNone result → is_utf8 line.now ≡ false }
+    ensures some { IfSome result (λ text. is_utf8 line.now ≡ true) }
+    ensures same { IfSome result (λ text. text.now ≡ line.now) }
+{
+    match str::from_utf8(line) {
+        Ok(text) => Some(text),
+        Err(_) => None,
+    }
+}
+
+fn kept_of(
+    alloc: Global,
+    caller: &str,
+    number: u64,
+    command: Command,
+    body: &[u8],
+) -> Result<Kept, AllocError>
+    ensures { IfOk result (λ kept. kept ≡ record {
+      named = record { caller = caller.now; number = number; command = command };
+      lottery = lottery_in command body.now;
+    }) }
+{
+    let lottery = lottery_in(alloc, &command, body)?;
+    let caller = Name::read(alloc, caller)?;
+    Ok(Kept {
+        named: Named {
+            caller,
+            number,
+            command,
+        },
+        lottery,
+    })
+}
+
+// What the bytes of a row are read as.
+#[tactic(auto, unfolding(crate::specs::Reading::kept_in))]
+pub(crate) fn kept_in(alloc: Global, row: &[u8]) -> Result<Kept, RowFault>
+    ensures { Decodes result (kept_in row.now) }
+{
+    let Some((line, body)) = line_in(row) else {
+        return Err(RowFault::BadRow);
+    };
+    let Some(line) = text_in(line) else {
+        return Err(RowFault::BadRow);
+    };
+    let Some(head) = head_in(line) else {
+        return Err(RowFault::BadRow);
+    };
+    let command = match command_in(alloc, head.word, head.own, body) {
+        Ok(command) => command,
+        Err(fault) => return Err(fault),
+    };
+    match kept_of(alloc, head.caller, head.number, command, body) {
+        Ok(kept) => Ok(kept),
+        Err(_) => Err(RowFault::Memory),
     }
 }
