@@ -1,3 +1,5 @@
 pub mod KeeperLaws
 pub mod ReadingLaws
 pub mod FieldSpells
+pub mod CommandSpells
+pub mod RowLaws

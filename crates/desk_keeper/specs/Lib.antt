@@ -2,3 +2,4 @@ pub mod Keepers
 pub mod Names
 pub mod Rows
 pub mod Reading
+pub mod Writing

@@ -1,12 +1,16 @@
 // Where accepted commands are kept: the rows that they are written as, and what keeps them.
 #![tactic(auto)]
 
+mod decoding;
+mod encoding;
 mod keeper;
 mod memory;
 mod names;
 mod reading;
 mod words;
 
+pub use decoding::decode;
+pub use encoding::encode;
 pub use keeper::{KeepFault, Keeper};
 pub use memory::{MemoryKeeper, SureKeeper};
 pub use names::{is_chair_name, is_source_name};
