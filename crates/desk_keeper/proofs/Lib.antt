@@ -3,3 +3,4 @@ pub mod ReadingLaws
 pub mod FieldSpells
 pub mod CommandSpells
 pub mod RowLaws
+pub mod WritingLaws

@@ -3,3 +3,4 @@ pub mod Names
 pub mod Rows
 pub mod Reading
 pub mod Writing
+pub mod Examples

@@ -1,7 +1,7 @@
 // Commands as the rows that keep them.
 
-ghost use Rattle.std.specs.Prelude.{◌≡◌, ◌++◌, ◌∷◌, [], List, ℕ, IfOk, OnOk, codes, decimal};
-ghost use Rattle.desk_keeper.specs.Rows.{MayKeep, body_of, command_word, head_of, how_word, mode_word, own_fields, row_of, table_word};
+ghost use Rattle.std.specs.Prelude.{◌≡◌, ◌<◌, ◌^◌, ◌++◌, ◌∷◌, [], List, ℕ, IfOk, OnOk, codes, decimal};
+ghost use Rattle.desk_keeper.specs.Rows.{IsRow, IsSmall, MayKeep, body_of, command_word, head_of, how_word, mode_word, own_fields, row_of, table_word};
 ghost use Rattle.desk_keeper.specs.Writing.{spaced};
 
 use crate::words::{Command, EditWords, HowWords, Named, TableWords};
@@ -98,7 +98,8 @@ fn push_edit(row: &mut Vec<u8>, base: u64, edit: &EditWords) -> Result<(), Alloc
 
 // The own fields of a command, with a space before each.
 fn push_own(row: &mut Vec<u8>, command: &Command, lottery: &[u8]) -> Result<(), AllocError>
-    ensures { OnOk result (row.new.items ≡ row.old.items ++ spaced (own_fields command.now lottery.now)) }
+    ensures text { OnOk result (row.new.items ≡ row.old.items ++ spaced (own_fields command.now lottery.now)) }
+    ensures small { OnOk result (IsSmall command.now) }
 {
     match command {
         Command::Edit { base, edit } => push_edit(row, *base, edit),
@@ -118,19 +119,22 @@ fn push_own(row: &mut Vec<u8>, command: &Command, lottery: &[u8]) -> Result<(), 
 }
 
 fn push_head(row: &mut Vec<u8>, named: &Named, lottery: &[u8]) -> Result<(), AllocError>
-    ensures { OnOk result (row.new.items ≡ row.old.items ++ head_of named.now lottery.now) }
+    ensures text { OnOk result (row.new.items ≡ row.old.items ++ head_of named.now lottery.now) }
+    ensures number { OnOk result (named.now.number < 2 ^ 64) }
+    ensures small { OnOk result (IsSmall named.now.command) }
 {
     row.extend_from_slice(command_word(&named.command).as_bytes())?;
     push_field(row, named.caller.as_str().as_bytes())?;
     push_number(row, named.number)?;
-    push_own(row, &named.command, lottery)
+    push_own(row, &named.command, lottery)?;
+    Ok(())
 }
 
 /// The row of a command; `lottery` is the text of a publish's lottery, and empty for every other command. `decode` reads
 /// the row back as this command and this lottery.
 pub fn encode(alloc: Global, named: &Named, lottery: &[u8]) -> Result<Vec<u8>, AllocError>
     requires { MayKeep named.now lottery.now }
-    ensures { IfOk result (λ row. row.items ≡ row_of named.now lottery.now) }
+    ensures { IfOk result (λ row. IsRow row.items named.now lottery.now) }
 {
     let mut row = Vec::new(alloc);
     push_head(&mut row, named, lottery)?;

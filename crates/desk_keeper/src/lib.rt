@@ -3,6 +3,7 @@
 
 mod decoding;
 mod encoding;
+mod examples;
 mod keeper;
 mod memory;
 mod names;
@@ -11,6 +12,7 @@ mod words;
 
 pub use decoding::decode;
 pub use encoding::encode;
+pub use examples::worked_rows;
 pub use keeper::{KeepFault, Keeper};
 pub use memory::{MemoryKeeper, SureKeeper};
 pub use names::{is_chair_name, is_source_name};
