@@ -126,7 +126,7 @@ table_read Caps = refl
 abbrev pub is_plain : ℕ → Bool
 is_plain b = ltb 32 b && ltb b 127
 
-all_weaker : (p q : ℕ → Bool) → ((b : ℕ) → p b ≡ true → q b ≡ true) → (w : List ℕ) → list_all p w ≡ true → list_all q w ≡ true
+pub all_weaker : (p q : ℕ → Bool) → ((b : ℕ) → p b ≡ true → q b ≡ true) → (w : List ℕ) → list_all p w ≡ true → list_all q w ≡ true
 all_weaker p q h [] all = refl
 all_weaker p q h (b ∷ w) all =
     let parts = and_parts (p b) (list_all p w) all in

@@ -218,3 +218,7 @@ row_only row kept named lottery short e is =
 
 pub row_none : (row : List ℕ) (named : Named) (lottery : List ℕ) → length row < 2 ^ 64 → kept_in row ≡ None → IsRow row named lottery → ⊥
 row_none row named lottery short none is = none-some (record { named = named; lottery = lottery }) (sym none ∙ row_read row named lottery short is)
+
+-- two commands of one row are the same
+pub row_one : (row : List ℕ) (a b : Named) (x y : List ℕ) → length row < 2 ^ 64 → IsRow row a x → IsRow row b y → (a ≡ b) × (x ≡ y)
+row_one row a b x y short is other = row_only row (record { named = b; lottery = y }) a x short (row_read row b y short other) is
