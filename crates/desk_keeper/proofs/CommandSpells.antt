@@ -1,6 +1,6 @@
 -- Commands are read as they are spelled, and spelled as they are read.
-use Rattle.std.proofs.Common.{◌≡◌, ℕ, ◌^◌, ◌<◌, Bool, true, false, cond, eqb, List, [], ◌∷◌, length, Option, None, Some, refl, sym, ap, subst, ◌∙◌, arith}
-use Rattle.std.specs.Prelude.{codes, decimal, ⊤}
+use Rattle.std.proofs.Common.{◌≡◌, ℕ, ◌^◌, ◌<◌, Bool, true, false, cond, eqb, List, [], ◌∷◌, length, Option, Some, refl, sym, subst, ◌∙◌, arith}
+use Rattle.std.specs.Prelude.{codes}
 use Rattle.std.specs.Str.{bytes_eq}
 use Rattle.std.proofs.lemmas.Bool.{eqb-true}
 use Rattle.std.proofs.lemmas.Option.{none-some}
@@ -8,12 +8,10 @@ use Rattle.match_rules.specs.declared.answer.Mode.{Mode}
 use Rattle.text_lines.specs.Fields.{two_of, four_of}
 use Rattle.text_lines.proofs.FormLaws.{same_words}
 use Rattle.desk_keeper.specs.declared.words.EditWords.{EditWords}
-use Rattle.desk_keeper.specs.declared.words.TableWords.{TableWords}
-use Rattle.desk_keeper.specs.declared.words.HowWords.{HowWords}
 use Rattle.desk_keeper.specs.declared.words.Command.{Command}
 use Rattle.desk_keeper.specs.declared.words.Command.TheVariants.{Edit, Submit, Publish, Draw}
 use Rattle.desk_keeper.specs.Rows.{command_word, own_fields, body_of, are_edit_words, MayHave, IsSmall}
-use Rattle.desk_keeper.specs.Reading.{◌>>=◌, needs, number_in, how_in, mode_in, table_in, has_length, edit_in, submit_in, publish_in, draw_in, command_in, lottery_in}
+use Rattle.desk_keeper.specs.Reading.{number_in, how_in, mode_in, table_in, has_length, edit_in, submit_in, publish_in, draw_in, command_in, lottery_in}
 use Rattle.desk_keeper.proofs.FieldSpells.{bind_some, needs_some, number_spells, number_read, length_spells, length_read, how_spells, how_read, mode_spells, mode_read, table_spells, table_read}
 
 two_is : (parts : List (List ℕ)) (f : List ℕ × List ℕ) → two_of parts ≡ Some f → parts ≡ f.0 ∷ f.1 ∷ []

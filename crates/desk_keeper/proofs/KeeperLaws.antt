@@ -1,7 +1,7 @@
 -- Rows that a keeper tells stay those that it was told to keep.
-use Rattle.std.proofs.Common.{◌≡◌, ℕ, List, [], ◌∷◌, ◌++◌, Option, Result, Ok, Err, ap, ◌∙◌}
+use Rattle.std.proofs.Common.{ℕ, List, [], ◌∷◌, ◌++◌, Option, Ok, Err, ap, ◌∙◌}
 use Rattle.desk_keeper.specs.declared.keeper.KeepFault.{KeepFault}
-use Rattle.desk_keeper.specs.Keepers.{Tells, Appends, Reads}
+use Rattle.desk_keeper.specs.Keepers.{Tells, Appends}
 
 pub tells_more : (old new : Option (List (List ℕ))) (rows : List (List ℕ)) (row : List ℕ) → Tells old rows → Appends old new (Ok tt) row → Tells new (rows ++ row ∷ [])
 tells_more old new rows row tells appends told = appends.rows told ∙ ap (λ (kept : List (List ℕ)). kept ++ row ∷ []) (tells (appends.untold told))

@@ -1,10 +1,10 @@
 -- Rows are read as the commands that they keep, and each is the row of one command alone.
-use Rattle.std.proofs.Common.{◌≡◌, ℕ, ◌+◌, ◌^◌, ◌<◌, ◌≤◌, Bool, true, false, cond, eqb, ltb, List, [], ◌∷◌, ◌++◌, length, get_or, take, drop, Option, None, Some, Result, Ok, Err, refl, sym, ap, subst, ◌∙◌, append_assoc, add-one, arith, lit<}
-use Rattle.std.specs.Prelude.{codes, decimal, IfOk, IsErrOf}
-use Rattle.std.specs.List.{list_all, position_or_len, before_first, after_first}
+use Rattle.std.proofs.Common.{◌≡◌, ℕ, ◌+◌, ◌^◌, ◌<◌, Bool, true, false, cond, ltb, List, [], ◌∷◌, ◌++◌, length, get_or, take, drop, Option, None, Some, refl, sym, ap, subst, ◌∙◌, append_assoc, add-one, arith}
+use Rattle.std.specs.Prelude.{codes, decimal}
+use Rattle.std.specs.List.{position_or_len, before_first, after_first}
 use Rattle.std.specs.Str.{IsUtf8, is_utf8}
 use Rattle.std.proofs.lemmas.Bool.{ltb-true, lt-ltb, eqb-true}
-use Rattle.std.proofs.lemmas.List.{length-append, append-nil}
+use Rattle.std.proofs.lemmas.List.{length-append}
 use Rattle.std.proofs.lemmas.List.Sums.{split_at_first, passes_at_first}
 use Rattle.std.proofs.lemmas.Option.{same_Some, none-some}
 use Rattle.std.proofs.lemmas.Str.{is_utf8-from_IsUtf8, IsUtf8-append, IsUtf8-nil}
@@ -15,7 +15,7 @@ use Rattle.text_lines.specs.Fields.{fields, with_spaces}
 use Rattle.text_lines.specs.Reading.{is_feed}
 use Rattle.text_lines.specs.Texts.{line_of}
 use Rattle.text_lines.proofs.FieldLaws.{with_spaces-fields}
-use Rattle.text_lines.proofs.LineLaws.{IsPlain, feed_at, feed_ahead}
+use Rattle.text_lines.proofs.LineLaws.{IsPlain, feed_ahead}
 use Rattle.text_lines.proofs.WordLaws.{IsWord, AllWords, Lacks, Lacks-append, fields-with_spaces, plain_from, number_word, ascii_text}
 use Rattle.desk_keeper.specs.declared.words.TableWords.{TableWords}
 use Rattle.desk_keeper.specs.declared.words.TableWords.TheVariants.{Settings, Papers, Reviewers, Values, Bids, Marks, Caps}
@@ -26,10 +26,10 @@ use Rattle.desk_keeper.specs.declared.words.Command.TheVariants.{Edit, Submit, P
 use Rattle.desk_keeper.specs.declared.words.Named.{Named}
 use Rattle.desk_keeper.specs.declared.words.Kept.{Kept}
 use Rattle.desk_keeper.specs.Names.{is_chair_name}
-use Rattle.desk_keeper.specs.Rows.{command_word, table_word, how_word, mode_word, own_fields, body_of, are_edit_words, MayHave, MayKeep, IsSmall, IsRow, head_of, row_of}
-use Rattle.desk_keeper.specs.Reading.{◌>>=◌, needs, number_in, head_in, head_from, HeadFields, line_in, command_in, lottery_in, kept_in}
+use Rattle.desk_keeper.specs.Rows.{command_word, table_word, how_word, mode_word, own_fields, body_of, are_edit_words, MayHave, IsSmall, IsRow, head_of, row_of}
+use Rattle.desk_keeper.specs.Reading.{◌>>=◌, needs, number_in, head_in, HeadFields, line_in, command_in, lottery_in, kept_in}
 use Rattle.desk_keeper.proofs.FieldSpells.{bind_some, needs_some, number_spells, number_read, chair_word, source_word, plain_word}
-use Rattle.desk_keeper.proofs.CommandSpells.{Spells, command_spells, command_read, lottery_read}
+use Rattle.desk_keeper.proofs.CommandSpells.{command_spells, command_read, lottery_read}
 
 -- ---- the head line and the bytes behind it
 

@@ -1,5 +1,5 @@
 -- A head line is its first word and its other fields, with a space before each.
-use Rattle.std.proofs.Common.{◌≡◌, ℕ, List, [], ◌∷◌, ◌++◌, refl, sym, ap, ◌∙◌, append_assoc}
+use Rattle.std.proofs.Common.{◌≡◌, ℕ, List, [], ◌∷◌, ◌++◌, sym, ap, ◌∙◌, append_assoc}
 use Rattle.std.proofs.lemmas.List.{append-nil}
 use Rattle.text_lines.specs.Fields.{with_spaces}
 use Rattle.text_lines.specs.Texts.{line_of}

@@ -1,5 +1,5 @@
 -- What bytes are read as, step by step: nothing where they are no row.
-use Rattle.std.specs.Prelude.{◌≡◌, ℕ, ◌<◌, Bool, ◌&&◌, ◌==◌, nat_eq, nat_le, nat_lt, List, [], ◌∷◌, length, drop, codes, Option, None, Some, Result, Ok, Err, if◌then◌else◌, ⊤}
+use Rattle.std.specs.Prelude.{◌≡◌, ℕ, Bool, ◌==◌, nat_eq, nat_le, nat_lt, List, [], ◌∷◌, length, drop, codes, Option, None, Some, Result, Ok, Err, if◌then◌else◌, ⊤}
 use Rattle.std.specs.List.{position_or_len, before_first, after_first, starts_with}
 use Rattle.std.specs.Str.{bytes_eq, is_utf8}
 use Rattle.match_rules.specs.declared.answer.Mode.{Mode}
@@ -14,11 +14,10 @@ use Rattle.desk_keeper.specs.declared.words.HowWords.{HowWords}
 use Rattle.desk_keeper.specs.declared.words.HowWords.TheVariants.{Merge, Replace}
 use Rattle.desk_keeper.specs.declared.words.Command.{Command}
 use Rattle.desk_keeper.specs.declared.words.Command.TheVariants.{Edit, Submit, Publish, Draw}
-use Rattle.desk_keeper.specs.declared.words.Named.{Named}
 use Rattle.desk_keeper.specs.declared.words.Kept.{Kept}
 use Rattle.desk_keeper.specs.declared.words.RowFault.{RowFault}
 use Rattle.desk_keeper.specs.declared.words.RowFault.TheVariants.{BadRow, Memory}
-use Rattle.desk_keeper.specs.Names.{is_chair_name, is_source_name}
+use Rattle.desk_keeper.specs.Names.{is_chair_name}
 use Rattle.desk_keeper.specs.Rows.{are_edit_words}
 
 infixl 10 ◌>>=◌

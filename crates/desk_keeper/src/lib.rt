@@ -9,6 +9,7 @@ mod laws;
 mod memory;
 mod names;
 mod reading;
+mod same;
 mod words;
 
 pub use decoding::decode;

@@ -198,12 +198,7 @@ fn draw_in(alloc: Global, line: &str, text: &[u8]) -> Result<Command, RowFault>
 }
 
 // A command by its word, the line of its own fields, and its body.
-fn command_in(
-    alloc: Global,
-    word: &str,
-    line: &str,
-    body: &[u8],
-) -> Result<Command, RowFault>
+fn command_in(alloc: Global, word: &str, line: &str, body: &[u8]) -> Result<Command, RowFault>
     ensures { Decodes result (command_in word.now (fields line.now) body.now) }
 {
     match word {

@@ -1,9 +1,9 @@
-use Rattle.std.proofs.Common.{◌≡◌, ℕ, ◌^◌, ◌<◌, List, length, None, Some, Result, Ok, Err, arith}
-use Rattle.std.specs.Prelude.{IfOk, IsErrOf}
+use Rattle.std.proofs.Common.{◌≡◌, ℕ, ◌^◌, ◌<◌, List, length, None, Result, Ok, Err, arith}
+use Rattle.std.specs.Prelude.{IfOk}
 use Rattle.desk_keeper.specs.declared.words.Kept.{Kept}
 use Rattle.desk_keeper.specs.declared.words.Named.{Named}
 use Rattle.desk_keeper.specs.declared.words.RowFault.{RowFault}
-use Rattle.desk_keeper.specs.declared.words.RowFault.TheVariants.{BadRow, Memory}
+use Rattle.desk_keeper.specs.declared.words.RowFault.TheVariants.{BadRow}
 use Rattle.desk_keeper.specs.Rows.{IsRow}
 use Rattle.desk_keeper.specs.Reading.{Decodes, kept_in}
 use Rattle.desk_keeper.proofs.RowLaws.{row_spells, row_only, row_none}
