@@ -11,3 +11,4 @@ pub mod Scans
 pub mod Waiting
 pub mod Certificates
 pub mod Checks
+pub mod Draws
