@@ -1,6 +1,6 @@
 -- A side that came to its end gives marks that are violated once the arc is held.
-use Rattle.std.proofs.Common.{◌≡◌, ◌≢◌, ℕ, ◌+◌, ◌-◌, ◌<◌, ◌≤◌, Bool, true, false, List, length, map, get_or-set_same, get_or-set_other, refl, sym, ap, subst, ◌∙◌, arith, inl, inr}
-use Rattle.std.specs.Prelude.{slice_set, slice_index, slice_index_or, ◌==◌, not}
+use Rattle.std.proofs.Common.{◌≡◌, ◌≢◌, ℕ, ◌+◌, ◌<◌, ◌≤◌, Bool, true, false, List, length, map, get_or-set_same, get_or-set_other, refl, sym, ap, ◌∙◌, arith, inl, inr}
+use Rattle.std.specs.Prelude.{slice_set, slice_index, ◌==◌, not}
 use Rattle.std.proofs.lemmas.Bool.{cases_eq, cases_lt, both_ways, eq-eqb, ne_eqb}
 use Rattle.std.proofs.lemmas.List.{length-set, get_or-map}
 use Rattle.match_rules.specs.Sums.{count_below, when}
@@ -11,11 +11,10 @@ use Rattle.residual_arcs.specs.Closed.{AreClosed}
 use Rattle.residual_arcs.specs.Step.{start_of, end_of, left_on, carried}
 use Rattle.residual_arcs.proofs.Closing.{AreViolated-from_closed}
 use Rattle.residual_arcs.proofs.Steps.{start_in, end_in}
-use Rattle.unit_turns.specs.declared.side.Aim.{Aim}
 use Rattle.unit_turns.specs.declared.side.Side.{Side}
 use Rattle.unit_turns.specs.Fixed.{with_fixed, fixed_arc}
-use Rattle.unit_turns.specs.Side.{AreNumbered, IsEnded, IsOpen, place_of}
-use Rattle.unit_turns.proofs.Units.{carried_above, carried_below, unit_moved}
+use Rattle.unit_turns.specs.Side.{AreNumbered, IsEnded, place_of}
+use Rattle.unit_turns.proofs.Units.{carried_below, unit_moved}
 
 -- a number is 0 or not
 some_of : (p : ℕ) → not (p == 0) ≡ true → 0 < p

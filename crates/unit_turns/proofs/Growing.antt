@@ -278,7 +278,7 @@ IsMeeting-turned net flow avoid side other meeting new meets from to arc forward
       arc = rw arc meets.arc;
       starts = rw (arc, forward, from) (ends.0 ∙ meets.ends);
       ends = rw (arc, forward, to) (ends.1 ∙ meets.starts);
-      passes = record { others = rw arc meets.passes.others; left = rw (arc, forward) meets.passes.left; };
+      passes = record { others = rw arc meets.passes.others; left = rw (arc, forward) meets.passes.left };
     }
 
 -- what may be taken turned may be taken: the arc has a choice

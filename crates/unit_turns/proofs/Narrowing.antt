@@ -1,11 +1,10 @@
 -- Links over a network whose bounds were narrowed.
 use Rattle.std.proofs.Common.{◌≡◌, ℕ, ◌+◌, ◌<◌, Bool, true, false, length, sym, ◌∙◌, arith}
-use Rattle.std.specs.Prelude.{slice_index}
 use Rattle.std.proofs.lemmas.List.Elements.{All-get_or}
 use Rattle.bounded_network.specs.Network.{NetworkValue, arc_at}
 use Rattle.bounded_network.specs.declared.network.Arc.{Arc}
 use Rattle.residual_arcs.specs.declared.links.Links.{Links}
-use Rattle.residual_arcs.specs.Links.{AreLinks, IsLink, link_at, no_link, start_at}
+use Rattle.residual_arcs.specs.Links.{AreLinks, IsLink, link_at, no_link}
 use Rattle.residual_arcs.specs.Step.{start_of, end_of}
 use Rattle.unit_turns.specs.Over.{AreLinksOver, IsNarrower}
 

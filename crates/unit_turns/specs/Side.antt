@@ -1,5 +1,5 @@
 -- The two sides of a search for a path: the nodes that steps reach from its start, and those from which they reach its end.
-use Rattle.std.specs.Prelude.{ℕ, ◌≡◌, ◌≢◌, ◌+◌, ◌-◌, ◌<◌, ◌≤◌, ◌==◌, ◌⊎◌, Bool, false, not, if◌then◌else◌, List, [], length, slice_index, slice_index_or}
+use Rattle.std.specs.Prelude.{ℕ, ◌≡◌, ◌≢◌, ◌+◌, ◌-◌, ◌<◌, ◌≤◌, ◌==◌, Bool, false, not, if◌then◌else◌, List, [], length, slice_index, slice_index_or}
 use Rattle.match_rules.specs.Sums.{count_below, when}
 use Rattle.bounded_network.specs.Network.{NetworkValue, arc_at}
 use Rattle.residual_arcs.specs.Step.{start_of, end_of, left_on}

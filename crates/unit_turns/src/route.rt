@@ -28,7 +28,6 @@ fn add_path(
     ensures { OnOk result (HasPath net.now flow.now aim side.now 0 place steps.old.items steps.new.items) }
 {
     let _nodes = net.nodes();
-    let _first = flow.first();
     let mut at = place as usize;
     while at > 0 {
         let reach = side.reaches[at];

@@ -1,6 +1,6 @@
 use Rattle.std.proofs.Common.{◌≡◌, [], ◌∷◌, ◌++◌, ap, ◌∙◌}
 use Rattle.unit_turns.specs.Paths.{HasPath}
-use Rattle.unit_turns.proofs.Routes.{onward, back, AreFree-across, AreAside-across, IsWay-whole}
+use Rattle.unit_turns.proofs.Routes.{onward, AreFree-across, AreAside-across, IsWay-whole}
 use Rattle.unit_turns.proofs.route.way_round.Goals as goal
 use Rattle.unit_turns.proofs.route.way_round.Goals.{In_ok-push-2}
 

@@ -1,12 +1,10 @@
-use Rattle.std.proofs.Common.{◌≡◌, ◌+◌, ◌<◌, ◌≤◌, ℕ, Bool, length, ap, sym, ◌∙◌, arith, inl, inr}
+use Rattle.std.proofs.Common.{◌≡◌, ◌+◌, ◌<◌, ◌≤◌, length, ap, ◌∙◌, arith, inl, inr}
 use Rattle.std.specs.Prelude.{slice_index}
 use Rattle.std.proofs.lemmas.Bool.{cases_lt}
 use Rattle.std.proofs.lemmas.List.{get_or_read}
-use Rattle.bounded_network.specs.Network.{arc_at}
 use Rattle.residual_arcs.specs.Links.{link_at, no_link}
-use Rattle.residual_arcs.proofs.Steps.{choice-from_left}
 use Rattle.unit_turns.specs.declared.side.Reach.{Reach}
-use Rattle.unit_turns.specs.Side.{reach_at, no_reach, place_of, toward, IsOpen}
+use Rattle.unit_turns.specs.Side.{reach_at, no_reach}
 use Rattle.unit_turns.proofs.Growing.{IsGrown-then, scanned_from_links}
 use Rattle.unit_turns.proofs.scanning.scan.Goals as goal
 use Rattle.unit_turns.proofs.scanning.scan.Goals.{After-index-in-loop-place, In_ok-found}

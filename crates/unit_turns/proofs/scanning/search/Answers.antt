@@ -1,4 +1,4 @@
-use Rattle.std.proofs.Common.{◌≡◌, ◌+◌, ◌<◌, ◌≤◌, true, false, length, arith, inl, inr}
+use Rattle.std.proofs.Common.{◌<◌, ◌≤◌, true, false, length, arith, inl, inr}
 use Rattle.std.proofs.lemmas.Bool.{cases_lt}
 use Rattle.unit_turns.proofs.Growing.{side_short, IsMeeting-turned, IsGrown-then, AreScannedTo-more, IsEnded-from}
 use Rattle.unit_turns.proofs.scanning.search.Goals as goal

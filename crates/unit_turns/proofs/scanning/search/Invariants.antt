@@ -1,4 +1,4 @@
-use Rattle.std.proofs.Common.{ℕ, ◌-◌, true, false}
+use Rattle.std.proofs.Common.{◌-◌, true, false}
 use Rattle.unit_turns.specs.Side.{IsSide, IsGrown, AreApart}
 use Rattle.unit_turns.proofs.Growing.{AreScannedTo}
 use Rattle.unit_turns.proofs.scanning.search.Given as goal

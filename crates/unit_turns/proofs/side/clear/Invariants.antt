@@ -1,5 +1,5 @@
-use Rattle.std.proofs.Common.{◌≡◌, ℕ, ◌+◌, ◌<◌, length}
-use Rattle.unit_turns.specs.Side.{reach_at, place_of}
+use Rattle.std.proofs.Common.{◌≡◌, ℕ, ◌<◌, length}
+use Rattle.unit_turns.specs.Side.{place_of}
 use Rattle.unit_turns.proofs.side.clear.Given as goal
 
 -- the nodes so far have no place, and the others have the one that they had
