@@ -79,6 +79,31 @@ fn take(
     }
 }
 
+// Turns one arc after another, and writes what came of each.
+fn take_all(
+    rt: &HostRuntime,
+    net: &Network,
+    links: &Links,
+    flow: &mut [u64],
+    ahead: &mut Side,
+    behind: &mut Side,
+) -> anyhow::Result<()>
+    requires circulation { IsCirculation net.now flow.old }
+    requires links { AreLinksOver net.now links.now }
+    requires ahead { IsBlank net.now ahead.old }
+    requires behind { IsBlank net.now behind.old }
+{
+    for (arc, forward) in [(0u32, true), (2u32, false), (1u32, false), (3u32, false)] {
+        let step = Step { arc, forward };
+        match take(rt.alloc(), net, links, flow, ahead, behind, step)? {
+            Turn::NoRoom => println!(rt; "arc {arc}: no room")?,
+            Turn::Stuck => println!(rt; "arc {arc}: stuck")?,
+            Turn::Taken { count } => println!(rt; "arc {arc}: {flow:?} by {count} steps")?,
+        }
+    }
+    Ok(())
+}
+
 fn run(rt: &HostRuntime) -> anyhow::Result<()> {
     let alloc = rt.alloc();
     let net = network(alloc)?;
@@ -93,23 +118,7 @@ fn run(rt: &HostRuntime) -> anyhow::Result<()> {
     else {
         bail!("the network has no circulation");
     };
-    for (arc, forward) in [(0u32, true), (2u32, false), (1u32, false), (3u32, false)] {
-        let step = Step { arc, forward };
-        match take(
-            alloc,
-            &net,
-            &links,
-            &mut flow,
-            &mut ahead,
-            &mut behind,
-            step,
-        )? {
-            Turn::NoRoom => println!(rt; "arc {arc}: no room")?,
-            Turn::Stuck => println!(rt; "arc {arc}: stuck")?,
-            Turn::Taken { count } => println!(rt; "arc {arc}: {flow:?} by {count} steps")?,
-        }
-    }
-    Ok(())
+    take_all(rt, &net, &links, &mut flow, &mut ahead, &mut behind)
 }
 
 fn main(rt: HostRuntime) -> anyhow::Result<()> {
