@@ -12,7 +12,7 @@ use bounded_network::Network;
 use residual_arcs::Step;
 use std::alloc::AllocError;
 
-// Adds the steps between the root and the node at the place.
+// Adds the steps between the root and the node at the place. The amounts stay: the clauses alone speak of them.
 fn add_path(
     net: &Network,
     flow: &[u64],
@@ -37,7 +37,7 @@ fn add_path(
     Ok(())
 }
 
-/// The step, and the steps that take its unit back from its end to its start.
+/// The step, and the steps that take its unit back from its end to its start. The amounts stay.
 pub fn way_round(
     net: &Network,
     flow: &[u64],

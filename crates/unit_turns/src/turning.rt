@@ -78,7 +78,8 @@ fn find_way(
 /// answers `false` and changes nothing where there is no path: then no circulation has this unit more, or less, on the arc.
 ///
 /// The network may be one whose bounds were narrowed since the links were made. The two sides are blank again in any case,
-/// so that no turn touches more of them than it searches. Where memory is wanting, the flow is as it was.
+/// so that no turn touches more of them than it searches. Where memory is wanting, the flow is as it was. What `steps` holds
+/// then, or where the answer is `false`, says nothing.
 pub fn turn(
     net: &Network,
     links: &Links,
