@@ -1,0 +1,4 @@
+pub mod LevelLaws
+pub mod LockedLaws
+pub mod SieveLaws
+pub mod Unpriced
