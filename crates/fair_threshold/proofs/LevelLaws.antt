@@ -6,19 +6,22 @@ use Rattle.match_rules.specs.declared.answer.Cut.{Cut}
 use Rattle.match_rules.specs.declared.answer.Sieve.{Sieve}
 use Rattle.match_rules.specs.declared.answer.Sieve.TheVariants.{All as EveryPair, AtLeast, Above}
 use Rattle.match_rules.specs.declared.lottery.Piece.{Piece}
+use Rattle.match_rules.specs.Answers.{CutMatches}
 use Rattle.match_rules.specs.Assignments.{Fits}
 use Rattle.match_rules.specs.Evidence.{Violated}
 use Rattle.match_rules.specs.Rules.{RulesValue, AreRules, most_score}
 use Rattle.match_rules.specs.SharesFit.{SharesFit}
 use Rattle.match_rules.specs.Thresholds.{CanFit, CanFitLocked, IsOpenScore, IsThreshold}
-use Rattle.match_rules.proofs.SieveLaws.{finer-every_pair, finer-greater, fits-more, fits-locked, shares_fit-more}
+use Rattle.match_rules.proofs.SieveLaws.{finer-above, finer-every_pair, finer-greater, fits-more, fits-locked, shares_fit-more}
 use Rattle.dual_check.proofs.CutLaws.{none_fits_at_violated}
 use Rattle.fair_threshold.specs.declared.found.FoundLevel.{FoundLevel}
 use Rattle.fair_threshold.specs.declared.found.FoundLevel.TheVariants as level
 use Rattle.fair_threshold.specs.declared.found.Threshold.{Threshold}
 use Rattle.fair_threshold.specs.declared.found.Threshold.TheVariants as threshold
 use Rattle.fair_threshold.specs.Levels.{IfScore, IsAt, IsAtScore, IsBar, IsFree, IsFreeLevel, IsLevelAt, IsLevelOf, IsNoLevel, IsNoneFits, IsThresholdAt, IsThresholdOf}
-use Rattle.fair_threshold.specs.Search.{IsBarred, NoShares}
+use Rattle.fair_threshold.specs.declared.narrowing.Range.{Range}
+use Rattle.fair_threshold.specs.Search.{IsRange, NoShares}
+use Rattle.fair_threshold.proofs.SieveLaws.{violated-finer}
 
 -- a cut that is violated leaves no lottery
 none-under : (rules : RulesValue) (sieve : Sieve) (cut : Cut) → AreRules rules → Violated rules sieve cut → ¬ (CanFit rules sieve)
@@ -72,12 +75,6 @@ level-becomes rules (level.NoneFits cut) are is = tt
 pub level-none : (rules : RulesValue) (score : ℤ) (shares : List ℕ) (cut : Cut) → IsLevelAt rules score shares cut → ¬ (NoShares rules EveryPair)
 level-none rules score shares cut at none = none shares (shares_fit-more rules (AtLeast score) EveryPair shares (finer-every_pair (AtLeast score)) at.fit)
 
-pub no-level : (rules : RulesValue) (found : FoundLevel) → IsLevelOf rules found → ¬ (IsFreeLevel found) → (IsNoLevel found → NoShares rules EveryPair)
-    → IsNoLevel found ↔ NoShares rules EveryPair
-no-level rules level.Free is asked known = absurd (asked tt)
-no-level rules (level.At score shares cut) is asked known = (known, level-none rules score shares cut is)
-no-level rules (level.NoneFits cut) is asked known = (known, λ none. tt)
-
 -- a threshold is unique
 pub threshold-unique : (rules : RulesValue) (a b : ℤ) → IsThreshold rules a → IsThreshold rules b → a ≡ b
 threshold-unique rules a b one other = by (int_lt a b) refl (int_lt b a) refl
@@ -111,6 +108,24 @@ threshold-score rules (threshold.At found cut) are is score =
     (λ same. subst (IsThreshold rules) same is.threshold, λ that. threshold-unique rules found score is.threshold that)
 threshold-score rules (threshold.NoneFits cut) are is score =
     (λ at. absurd at, λ that. none-under rules EveryPair cut are is.violated (can-all rules (AtLeast score) that.feasible))
+
+-- a range, from what is known of its parts
+pub range-of : (rules : RulesValue) (low high same_low same_high : ℤ) (shares : List ℕ) (cut : Cut) → same_low ≡ low → same_high ≡ high
+    → IsOpenScore rules low → SharesFit rules (AtLeast low) shares → CutMatches rules cut → Violated rules (Above high) cut
+    → IsRange rules (record { low = same_low; shares = shares; high = same_high; cut = cut })
+range-of rules low high same_low same_high shares cut low_is high_is of_pair fit known violated =
+    rw (low_is, high_is) (record { of_pair = of_pair; fit = fit; known = known; above = violated })
+
+-- where its ends meet there is the level
+pub level-met : (rules : RulesValue) (range : Range) → AreRules rules → ¬ (CanFitLocked rules) → IsRange rules range → range.high ≤ℤ range.low
+    → IsLevelAt rules range.low range.shares range.cut
+level-met rules range are asked is met = record {
+  asked = asked;
+  of_pair = is.of_pair;
+  fit = is.fit;
+  known = is.known;
+  above = violated-finer rules (Above range.low) (Above range.high) range.cut are (finer-above range.high range.low met) is.above;
+}
 
 -- how far the high score is above the low one
 abbrev pub span_of : ℤ → ℕ

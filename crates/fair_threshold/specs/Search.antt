@@ -1,5 +1,6 @@
 -- What the search for the level knows.
 use Rattle.std.specs.Prelude.{◌≡◌, ◌<◌, ◌≤◌, ℕ, List, length, map, slice_index, false, Option, None, Some, ℤ, pos, ◌≤ℤ◌}
+use Rattle.std.specs.Int.{int_min}
 use Rattle.match_rules.specs.declared.answer.Cut.{Cut}
 use Rattle.match_rules.specs.declared.answer.Sieve.{Sieve}
 use Rattle.match_rules.specs.declared.answer.Sieve.TheVariants.{AtLeast, Above}
@@ -43,10 +44,19 @@ pub record IsUsed (rules : RulesValue) (shares : List ℕ) (e : ℕ) : Type 0 wh
   pub free : is_locked rules e ≡ false
   pub some : 1 ≤ slice_index shares e
 
+-- the score of such a pair
+abbrev pub IsUsedScore : RulesValue → List ℕ → ℤ → Type 0
+IsUsedScore rules shares score = (e : ℕ) × ((e < length rules.pairs) × (IsUsed rules shares e × ((pair_at rules e).score ≡ score)))
+
+-- the lower one of a score and one that may be missing
+abbrev pub lower_of : Option ℤ → ℤ → ℤ
+lower_of None score = score
+lower_of (Some least) score = int_min least score
+
 -- the least score of these pairs below a place, if there are some
 abbrev pub IsLeastBelow : RulesValue → List ℕ → ℕ → Option ℤ → Type 0
 IsLeastBelow rules shares n None = (e : ℕ) → e < n → ¬ (IsUsed rules shares e)
-IsLeastBelow rules shares n (Some least) = IsOpenScore rules least × ((e : ℕ) → e < n → IsUsed rules shares e → least ≤ℤ (pair_at rules e).score)
+IsLeastBelow rules shares n (Some least) = IsUsedScore rules shares least × ((e : ℕ) → e < n → IsUsed rules shares e → least ≤ℤ (pair_at rules e).score)
 
 -- the level is from the low score, with which shares fit, to the high one, above which a cut is violated
 pub record IsRange (rules : RulesValue) (range : Range) : Type 0 where

@@ -10,7 +10,7 @@ ghost use Rattle.fair_threshold.specs.Search.{IsBarred, NoShares};
 
 use crate::found::FoundLevel;
 use crate::narrowing::{Range, narrowed};
-use crate::probing::{Probe, probe};
+use crate::probing::{Probe, probed};
 use crate::scores::{least_score, open_scores};
 use match_rules::{Cut, MOST_SCORE, Rules, Sieve};
 use std::alloc::{AllocError, Global};
@@ -23,9 +23,11 @@ fn asked_level(alloc: Global, rules: &Rules, cut: Cut) -> Result<FoundLevel, All
     requires plain { Plain rules.now }
     requires barred { IsBarred rules.now (Above (pos most_score)) cut }
     ensures level { IfOk result (IsLevelOf rules.now) }
-    ensures asked { IfOk result (λ level. ¬ (IsFreeLevel level)) }
+    ensures none { IfOk result (λ level. IsNoLevel level ↔ NoShares rules.now EveryPair) }
 {
-    match probe(alloc, rules, Sieve::All)? {
+    // The rules keep their conditions.
+    let _pairs = rules.pairs();
+    match probed(alloc, rules, Sieve::All)? {
         Probe::Barred { cut } => Ok(FoundLevel::NoneFits { cut }),
         Probe::Fits { shares } => {
             let low = match least_score(rules, &shares) {
@@ -39,14 +41,27 @@ fn asked_level(alloc: Global, rules: &Rules, cut: Cut) -> Result<FoundLevel, All
                 high: TOP,
                 cut,
             };
-            let Range {
-                low: score,
-                shares,
-                high: _high,
-                cut,
-            } = narrowed(alloc, rules, &scores, whole)?;
-            Ok(FoundLevel::At { score, shares, cut })
+            let range = narrowed(alloc, rules, &scores, whole)?;
+            Ok(FoundLevel::At {
+                score: range.low,
+                shares: range.shares,
+                cut: range.cut,
+            })
         }
+    }
+}
+
+// The level of rules, with what says that it is one.
+fn found_level(alloc: Global, rules: &Rules) -> Result<FoundLevel, AllocError>
+    requires plain { Plain rules.now }
+    ensures level { IfOk result (IsLevelOf rules.now) }
+    ensures none { IfOk result (λ level. IsNoLevel level ↔ NoShares rules.now EveryPair) }
+{
+    // The rules keep their conditions.
+    let _pairs = rules.pairs();
+    match probed(alloc, rules, Sieve::Above { score: TOP })? {
+        Probe::Fits { shares: _shares } => Ok(FoundLevel::Free),
+        Probe::Barred { cut } => asked_level(alloc, rules, cut),
     }
 }
 
@@ -69,8 +84,6 @@ pub fn level_of(alloc: Global, rules: &Rules) -> Result<FoundLevel, AllocError>
 {
     // The rules keep their conditions.
     let _pairs = rules.pairs();
-    match probe(alloc, rules, Sieve::Above { score: TOP })? {
-        Probe::Fits { shares: _shares } => Ok(FoundLevel::Free),
-        Probe::Barred { cut } => asked_level(alloc, rules, cut),
-    }
+    let level = found_level(alloc, rules)?;
+    Ok(level)
 }

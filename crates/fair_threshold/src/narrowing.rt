@@ -6,7 +6,7 @@ ghost use Rattle.match_rules.specs.Plain.{Plain};
 ghost use Rattle.match_rules.specs.Rules.{most_score};
 ghost use Rattle.fair_threshold.specs.Search.{IsRange, NoShares};
 
-use crate::probing::{Probe, probe};
+use crate::probing::{Probe, probed};
 use crate::scores::{least_score, middle_of};
 use dual_check::is_violated;
 use match_rules::{Cut, Rules, Shares, Sieve};
@@ -43,7 +43,7 @@ fn tried(alloc: Global, rules: &Rules, range: Range, score: i64) -> Result<Range
             ..range
         });
     }
-    match probe(alloc, rules, sieve)? {
+    match probed(alloc, rules, sieve)? {
         Probe::Fits { shares } => match least_score(rules, &shares) {
             Some(low) => Ok(Range {
                 low,

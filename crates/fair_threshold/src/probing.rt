@@ -20,7 +20,7 @@ pub(crate) enum Probe {
 }
 
 /// Shares that fit under a sieve, or a cut that is violated. No score counts.
-pub(crate) fn probe(alloc: Global, rules: &Rules, sieve: Sieve) -> Result<Probe, AllocError>
+pub(crate) fn probed(alloc: Global, rules: &Rules, sieve: Sieve) -> Result<Probe, AllocError>
     requires plain { Plain rules.now }
     ensures { IfOk result (IsProbe rules.now sieve) }
 {

@@ -1,8 +1,8 @@
 // The scores of the pairs that aren't locked: all of them, those that shares use, and those between two scores.
 
-ghost use Rattle.std.specs.Prelude.{◌≡◌, ◌<◌, ◌≤◌, ◌<ℤ◌, ◌≤ℤ◌, ◌↔◌, ◌×◌, IsTrue, length};
-ghost use Rattle.match_rules.specs.Rules.{is_locked};
-ghost use Rattle.fair_threshold.specs.Search.{IsLeastBelow, IsUsed};
+ghost use Rattle.std.specs.Prelude.{◌≡◌, ◌+◌, ◌<◌, ◌≤◌, ◌<ℤ◌, ◌≤ℤ◌, ◌↔◌, IsTrue, length};
+ghost use Rattle.match_rules.specs.Rules.{pair_at};
+ghost use Rattle.fair_threshold.specs.Search.{IsLeastBelow, IsUsed, lower_of};
 
 use match_rules::{Rules, Shares};
 use std::alloc::{AllocError, Global};
@@ -53,12 +53,30 @@ fn is_used(rules: &Rules, shares: &Shares, pair: usize) -> bool
     shares[pair] > 0
 }
 
-// The lower one of a score and the least one before it.
-fn lower(least: Option<i64>, score: i64) -> i64 {
+// The lower one of a pair's score and another, if there is one.
+fn lower(rules: &Rules, pair: usize, least: Option<i64>) -> i64
+    requires { pair < length rules.now.pairs }
+    ensures { result ≡ lower_of least (pair_at rules.now pair).score }
+{
+    let score = rules.pairs()[pair].score;
     match least {
-        Some(least) if least <= score => least,
-        _ => score,
+        Some(least) => least.min(score),
+        None => score,
     }
+}
+
+// The least score up to and with a place, from that below it.
+fn least_with(rules: &Rules, shares: &Shares, pair: usize, least: Option<i64>) -> Option<i64>
+    requires place { pair < length rules.now.pairs }
+    requires long { length shares.now ≡ length rules.now.pairs }
+    requires before { IsLeastBelow rules.now shares.now pair least }
+    ensures { IsLeastBelow rules.now shares.now (pair + 1) result }
+{
+    let used = is_used(rules, shares, pair);
+    if !used {
+        return least;
+    }
+    Some(lower(rules, pair, least))
 }
 
 /// The least score of the pairs that aren't locked and have a share.
@@ -66,12 +84,10 @@ pub(crate) fn least_score(rules: &Rules, shares: &Shares) -> Option<i64>
     requires { length shares.now ≡ length rules.now.pairs }
     ensures { IsLeastBelow rules.now shares.now (length rules.now.pairs) result }
 {
+    let count = rules.pairs().len();
     let mut least = None;
-    for pair in 0..rules.pairs().len() {
-        let used = is_used(rules, shares, pair);
-        if used {
-            least = Some(lower(least, rules.pairs()[pair].score));
-        }
+    for pair in 0..count {
+        least = least_with(rules, shares, pair, least);
     }
     least
 }

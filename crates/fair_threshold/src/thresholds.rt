@@ -1,6 +1,6 @@
 // The threshold of rules.
 
-ghost use Rattle.std.specs.Prelude.{◌↔◌, ◌×◌, ℤ, IfOk};
+ghost use Rattle.std.specs.Prelude.{◌↔◌, ℤ, IfOk};
 ghost use Rattle.match_rules.specs.declared.answer.Sieve.TheVariants.{All as EveryPair};
 ghost use Rattle.match_rules.specs.Plain.{Plain};
 ghost use Rattle.match_rules.specs.Thresholds.{CanFit, CanFitLocked, IsThreshold};
@@ -11,6 +11,21 @@ use crate::levels::level_of;
 use lottery_peel::peel;
 use match_rules::Rules;
 use std::alloc::{AllocError, Global};
+
+// The threshold, by a level and a lottery at its score.
+fn found_threshold(alloc: Global, rules: &Rules) -> Result<Threshold, AllocError>
+    requires plain { Plain rules.now }
+    ensures { IfOk result (IsThresholdOf rules.now) }
+{
+    match level_of(alloc, rules)? {
+        FoundLevel::Free => Ok(Threshold::Free),
+        FoundLevel::At { score, shares, cut } => {
+            let _lottery = peel(alloc, rules, &shares)?;
+            Ok(Threshold::At { score, cut })
+        }
+        FoundLevel::NoneFits { cut } => Ok(Threshold::NoneFits { cut }),
+    }
+}
 
 /// The greatest feasible threshold of rules, with a cut that shows that no greater one is, or that nothing fits.
 ///
@@ -28,12 +43,6 @@ pub fn threshold(alloc: Global, rules: &Rules) -> Result<Threshold, AllocError>
 {
     // The rules keep their conditions.
     let _pairs = rules.pairs();
-    match level_of(alloc, rules)? {
-        FoundLevel::Free => Ok(Threshold::Free),
-        FoundLevel::At { score, shares, cut } => {
-            let _lottery = peel(alloc, rules, &shares)?;
-            Ok(Threshold::At { score, cut })
-        }
-        FoundLevel::NoneFits { cut } => Ok(Threshold::NoneFits { cut }),
-    }
+    let threshold = found_threshold(alloc, rules)?;
+    Ok(threshold)
 }

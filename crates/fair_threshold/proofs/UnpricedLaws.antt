@@ -1,5 +1,5 @@
 -- A network at no cost has the circulations and the violated marks of the network.
-use Rattle.std.proofs.Common.{◌≡◌, ◌↔◌, ℕ, ◌<◌, List, length, map, get_or, sym, ap, ◌∙◌, subst, arith}
+use Rattle.std.proofs.Common.{◌≡◌, ◌↔◌, ℕ, ◌<◌, List, length, map, get_or, refl, sym, ap, ◌∙◌, subst, arith}
 use Rattle.std.proofs.lemmas.Int.{ints}
 use Rattle.std.proofs.lemmas.List.{get_or-map}
 use Rattle.std.proofs.Math.ListN.{length-map}
@@ -12,7 +12,7 @@ use Rattle.fair_threshold.specs.Search.{unpriced, IsUnpriced}
 
 -- as many arcs, and each is the same but for its cost
 as-many : (net free : NetworkValue) → IsUnpriced net free → length free.arcs ≡ length net.arcs
-as-many net free is = ap length is.arcs ∙ length-map unpriced net.arcs
+as-many net free is = ap length is.arcs ∙ length-map net.arcs unpriced
 
 same-arc : (net free : NetworkValue) (a : ℕ) → IsUnpriced net free → a < length net.arcs → arc_at free a ≡ unpriced (arc_at net a)
 same-arc net free a is lt = ap (λ (arcs : List Arc). get_or arcs a no_arc) is.arcs ∙ get_or-map unpriced net.arcs a no_arc no_arc lt
