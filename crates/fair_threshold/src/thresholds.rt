@@ -17,6 +17,8 @@ fn found_threshold(alloc: Global, rules: &Rules) -> Result<Threshold, AllocError
     requires plain { Plain rules.now }
     ensures { IfOk result (IsThresholdOf rules.now) }
 {
+    // The rules keep their conditions.
+    let _pairs = rules.pairs();
     match level_of(alloc, rules)? {
         FoundLevel::Free => Ok(Threshold::Free),
         FoundLevel::At { score, shares, cut } => {
