@@ -10,14 +10,14 @@ use Rattle.fair_threshold.proofs.thresholds.found_threshold.Goals as goal
 pub peel-requires-clause-fit : goal.peel-requires-clause-fit
 peel-requires-clause-fit c =
     let all : RulesValue = c.args.rules.now in
-    let at : IsLevelAt all c.in-At.score c.in-At.shares c.in-At.cut = rw c.in-At.is at c.in_ok-score.ensures.level in
+    let at : IsLevelAt all c.in-At.score c.in-At.shares c.in-At.cut = rw c.in-At.is at c.in_ok-level_of.ensures.level in
     shares_fit-more all (AtLeast c.in-At.score) EveryPair c.in-At.shares (finer-every_pair (AtLeast c.in-At.score)) at.fit
 
-pub returns-in_ok-lottery-in-At : goal.returns-in_ok-lottery-in-At
-returns-in_ok-lottery-in-At c =
+pub returns-in_ok-_lottery-in-At : goal.returns-in_ok-_lottery-in-At
+returns-in_ok-_lottery-in-At c =
     let all : RulesValue = c.args.rules.now in
-    let at : IsLevelAt all c.in-At.score c.in-At.shares c.in-At.cut = rw c.in-At.is at c.in_ok-score.ensures.level in
-    let feasible : CanFit all (AtLeast c.in-At.score) = (c.in_ok-lottery-in-At.lottery, c.in_ok-lottery-in-At.ensures.fits (AtLeast c.in-At.score) at.fit) in
+    let at : IsLevelAt all c.in-At.score c.in-At.shares c.in-At.cut = rw c.in-At.is at c.in_ok-level_of.ensures.level in
+    let feasible : CanFit all (AtLeast c.in-At.score) = (c.in_ok-_lottery-in-At._lottery, c.in_ok-_lottery-in-At.ensures.fits (AtLeast c.in-At.score) at.fit) in
     let same : to_z w64 (of_z w64 c.in-At.score) ≡ c.in-At.score = search rules in
     rw same
     (record {
