@@ -1,13 +1,11 @@
 -- What cuts and shares say of thresholds.
-use Rattle.std.proofs.Common.{◌≡◌, ◌↔◌, ℕ, ◌<◌, Bool, true, false, List, length, refl, sym, subst, arith, inl, inr, ◌⊎◌}
+use Rattle.std.proofs.Common.{◌≡◌, ◌↔◌, ℕ, ◌<◌, Bool, true, false, List, refl, subst, arith}
 use Rattle.std.proofs.lemmas.Int.{ints}
-use Rattle.std.specs.Prelude.{ℤ, pos, negsuc, ◌-ℤ◌, ◌<ℤ◌, ◌≤ℤ◌, int_lt}
+use Rattle.std.specs.Prelude.{ℤ, pos, negsuc, ◌<ℤ◌, ◌≤ℤ◌, int_lt}
 use Rattle.match_rules.specs.declared.answer.Cut.{Cut}
 use Rattle.match_rules.specs.declared.answer.Sieve.{Sieve}
 use Rattle.match_rules.specs.declared.answer.Sieve.TheVariants.{All as EveryPair, AtLeast, Above}
-use Rattle.match_rules.specs.declared.lottery.Piece.{Piece}
 use Rattle.match_rules.specs.Answers.{CutMatches}
-use Rattle.match_rules.specs.Assignments.{Fits}
 use Rattle.match_rules.specs.Evidence.{Violated}
 use Rattle.match_rules.specs.Rules.{RulesValue, AreRules, most_score}
 use Rattle.match_rules.specs.SharesFit.{SharesFit}
@@ -18,7 +16,7 @@ use Rattle.fair_threshold.specs.declared.found.FoundLevel.{FoundLevel}
 use Rattle.fair_threshold.specs.declared.found.FoundLevel.TheVariants as level
 use Rattle.fair_threshold.specs.declared.found.Threshold.{Threshold}
 use Rattle.fair_threshold.specs.declared.found.Threshold.TheVariants as threshold
-use Rattle.fair_threshold.specs.Levels.{IfScore, IsAt, IsAtScore, IsBar, IsFree, IsFreeLevel, IsLevelAt, IsLevelOf, IsNoLevel, IsNoneFits, IsThresholdAt, IsThresholdOf}
+use Rattle.fair_threshold.specs.Levels.{IfScore, IsAt, IsAtScore, IsFree, IsFreeLevel, IsLevelAt, IsLevelOf, IsNoneFits, IsThresholdOf}
 use Rattle.fair_threshold.specs.declared.narrowing.Range.{Range}
 use Rattle.fair_threshold.specs.Search.{IsRange, NoShares}
 use Rattle.fair_threshold.proofs.SieveLaws.{violated-finer}

@@ -1,21 +1,20 @@
 -- Where shares fit with the locked pairs alone, these pairs as one assignment are a lottery that fits.
-use Rattle.std.proofs.Common.{◌≡◌, ℕ, zero, suc, ◌+◌, ◌*◌, ◌/◌, ◌%◌, ◌<◌, ◌≤◌, ◌⊎◌, min, Bool, true, false, List, [], ◌∷◌, length, map, All, refl, sym, ap, ◌∙◌, arith, inl, inr}
+use Rattle.std.proofs.Common.{◌≡◌, ℕ, zero, suc, ◌+◌, ◌*◌, ◌/◌, ◌<◌, ◌≤◌, ◌⊎◌, Bool, true, false, List, [], ◌∷◌, length, map, refl, sym, ap, ◌∙◌, arith, inl, inr}
 use Rattle.std.proofs.lemmas.Bool.{eqb-true}
 use Rattle.std.proofs.lemmas.List.Elements.{All-cons, All-nil}
 use Rattle.std.proofs.Math.ListN.{get_or-map, length-map}
 use Rattle.std.specs.Prelude.{pos, slice_index, ◌==◌}
-use Rattle.match_rules.specs.declared.answer.Sieve.{Sieve}
 use Rattle.match_rules.specs.declared.answer.Sieve.TheVariants.{All as EveryPair, Above}
 use Rattle.match_rules.specs.declared.lottery.Piece.{Piece}
 use Rattle.match_rules.specs.declared.rules.TheConstants.{MOST_TICKETS}
 use Rattle.match_rules.specs.Answers.{IsRounding, Rounded, shares_where}
-use Rattle.match_rules.specs.Assignments.{Fits, Meets, holds, keeps, cap_under, tickets, times}
+use Rattle.match_rules.specs.Assignments.{Meets, holds, keeps, cap_under}
 use Rattle.match_rules.specs.Chosen.{AreChoices, CountsMeet, CountsRound, chosen_places}
 use Rattle.match_rules.specs.Groups.{is_in_group}
 use Rattle.match_rules.specs.Rules.{RulesValue, AreRules, is_locked, most_score, pair_at, paper_at, reviewer_at}
 use Rattle.match_rules.specs.SharesFit.{SharesFit, paper_shares, group_shares, reviewer_shares}
 use Rattle.match_rules.specs.Sums.{count_below, when}
-use Rattle.match_rules.specs.Thresholds.{CanFitLocked, FitsLocked}
+use Rattle.match_rules.specs.Thresholds.{CanFitLocked}
 use Rattle.match_rules.proofs.ChosenLaws.{chosen-meets, chosen-rounded}
 use Rattle.match_rules.proofs.SieveLaws.{keeps-locked}
 
@@ -159,15 +158,18 @@ capped-never : (held all cap : ℕ) → held ≡ 0 → (0 + 1 * held) * all ≤ 
 capped-never held all cap is = rw is (omega arith)
 
 pub locked-fits : (rules : RulesValue) (shares : List ℕ) → AreRules rules → SharesFit rules (Above (pos most_score)) shares → CanFitLocked rules
-locked-fits rules shares are fit = (piece ∷ [], record {
-  fits = record {
-    some_ticket = omega arith;
-    weights = All-cons (λ (p : Piece). 1 ≤ p.weight) piece [] (omega arith) (All-nil (λ (p : Piece). 1 ≤ p.weight));
-    pieces = All-cons (λ (p : Piece). Meets rules p.pairs) piece [] meets (All-nil (λ (p : Piece). Meets rules p.pairs));
-    caps = λ e h. capped e h (all-or-none rules shares e are fit h);
-  };
-  alone = λ e h free. let none : holds (chosen_places (counts_of shares)) e ≡ 0 = unheld e h free in omega (arith, none);
-})
+locked-fits rules shares are fit = (
+  piece ∷ [],
+  record {
+    fits = record {
+      some_ticket = omega arith;
+      weights = All-cons (λ (p : Piece). 1 ≤ p.weight) piece [] (omega arith) (All-nil (λ (p : Piece). 1 ≤ p.weight));
+      pieces = All-cons (λ (p : Piece). Meets rules p.pairs) piece [] meets (All-nil (λ (p : Piece). Meets rules p.pairs));
+      caps = λ e h. capped e h (all-or-none rules shares e are fit h);
+    };
+    alone = λ e h free. let none : holds (chosen_places (counts_of shares)) e ≡ 0 = unheld e h free in omega (arith, none);
+  },
+)
   where
     piece : Piece
     piece = record { weight = 1; pairs = chosen_places (counts_of shares) }

@@ -1,14 +1,13 @@
 -- The least score that shares use, place by place.
-use Rattle.std.proofs.Common.{◌≡◌, ℕ, ◌+◌, ◌<◌, ◌≤◌, Bool, true, false, List, length, refl, sym, ap, subst, arith, inl, inr}
+use Rattle.std.proofs.Common.{◌≡◌, ℕ, ◌+◌, ◌<◌, ◌≤◌, Bool, true, false, List, length, refl, subst, arith, inl, inr}
 use Rattle.std.proofs.lemmas.Bool.{cases_lt}
 use Rattle.std.proofs.lemmas.Int.{ints, clamps}
 use Rattle.std.specs.Int.{int_min}
-use Rattle.std.specs.Prelude.{Option, None, Some, ℤ, ◌<ℤ◌, ◌≤ℤ◌, int_le, int_lt, ◌||◌, slice_index}
+use Rattle.std.specs.Prelude.{Option, None, Some, ℤ, ◌<ℤ◌, ◌≤ℤ◌, int_le, int_lt, slice_index}
 use Rattle.match_rules.specs.declared.answer.Sieve.TheVariants.{Above}
 use Rattle.match_rules.specs.Assignments.{cap_under}
-use Rattle.match_rules.specs.Rules.{RulesValue, is_locked, pair_at}
+use Rattle.match_rules.specs.Rules.{RulesValue, pair_at}
 use Rattle.match_rules.specs.SharesFit.{SharesFit}
-use Rattle.match_rules.specs.Sums.{when}
 use Rattle.match_rules.specs.Thresholds.{IsOpenScore}
 use Rattle.fair_threshold.specs.Search.{IsLeastBelow, IsUsed, IsUsedScore, lower_of}
 
@@ -45,7 +44,7 @@ least-more rules shares n None before within used = (
 least-more rules shares n (Some least) (of_pair, before) within used = (
   lower-used rules shares least (pair_at rules n).score of_pair (n, (within, (used, refl))),
   step n (λ e. IsUsed rules shares e → int_min least (pair_at rules n).score ≤ℤ (pair_at rules e).score)
-  (λ e lt also. let low = before e lt also in omega (arith, ints, clamps)) (λ also. omega (arith, ints, clamps)),
+      (λ e lt also. let low = before e lt also in omega (arith, ints, clamps)) (λ also. omega (arith, ints, clamps)),
 )
 
 -- a score that shares use is that of a pair that isn't locked

@@ -1,17 +1,17 @@
 -- What fits, or is violated, under one sieve and so under another.
-use Rattle.std.proofs.Common.{◌≡◌, ℕ, zero, suc, ◌+◌, ◌<◌, ◌≤◌, ◌⊎◌, Bool, true, false, ◌||◌, List, length, refl, sym, ap, ◌∙◌, arith, inl, inr}
+use Rattle.std.proofs.Common.{◌≡◌, ℕ, zero, suc, ◌<◌, ◌≤◌, ◌⊎◌, Bool, true, false, ◌||◌, List, length, refl, sym, ◌∙◌, arith, inl, inr}
 use Rattle.std.proofs.lemmas.Bool.{eq-eqb}
 use Rattle.std.proofs.lemmas.Int.{ints}
-use Rattle.std.specs.Prelude.{ℤ, pos, ◌≤ℤ◌, int_le, ◌&&◌, not, slice_index}
+use Rattle.std.specs.Prelude.{ℤ, ◌≤ℤ◌, int_le, ◌&&◌, not, slice_index}
 use Rattle.match_rules.specs.declared.answer.Cut.{Cut}
 use Rattle.match_rules.specs.declared.answer.Side.{Side}
 use Rattle.match_rules.specs.declared.answer.Side.TheVariants.{Into, OutOf}
 use Rattle.match_rules.specs.declared.answer.Sieve.{Sieve}
-use Rattle.match_rules.specs.declared.answer.Sieve.TheVariants.{All as EveryPair, AtLeast, Above}
+use Rattle.match_rules.specs.declared.answer.Sieve.TheVariants.{AtLeast}
 use Rattle.match_rules.specs.declared.rules.TheConstants.{MOST_TICKETS}
 use Rattle.match_rules.specs.Assignments.{keeps, lets_pass, cap_under}
 use Rattle.match_rules.specs.Evidence.{Violated, need_by, room_by, tail_marked, head_marked, enters, leaves, floors_where, caps_where}
-use Rattle.match_rules.specs.Rules.{RulesValue, AreRules, is_locked, most_score, pair_at}
+use Rattle.match_rules.specs.Rules.{RulesValue, AreRules, is_locked, pair_at}
 use Rattle.match_rules.specs.SharesFit.{SharesFit}
 use Rattle.match_rules.specs.Sieves.{IsFiner}
 use Rattle.match_rules.specs.Sums.{count_below, when}

@@ -1,9 +1,9 @@
 -- A network at no cost has the circulations and the violated marks of the network.
-use Rattle.std.proofs.Common.{◌≡◌, ◌↔◌, ℕ, ◌<◌, List, length, map, get_or, refl, sym, ap, ◌∙◌, subst, arith}
+use Rattle.std.proofs.Common.{◌≡◌, ◌↔◌, ℕ, ◌<◌, List, length, get_or, refl, sym, ap, ◌∙◌, subst, arith}
 use Rattle.std.proofs.lemmas.Int.{ints}
 use Rattle.std.proofs.lemmas.List.{get_or-map}
 use Rattle.std.proofs.Math.ListN.{length-map}
-use Rattle.std.specs.Prelude.{Bool, pos, slice_index, ◌==◌, ◌&&◌, not}
+use Rattle.std.specs.Prelude.{Bool, slice_index, ◌==◌, ◌&&◌, not}
 use Rattle.match_rules.specs.Sums.{count_below, when}
 use Rattle.bounded_network.specs.declared.network.Arc.{Arc}
 use Rattle.bounded_network.specs.Network.{NetworkValue, IsArc, IsNetwork, IsCirculation, AreViolated, arc_at, no_arc, entering, leaving, floors_into, rooms_out_of, is_marked}

@@ -6,7 +6,7 @@ use Rattle.match_rules.specs.Answers.{CutMatches}
 use Rattle.match_rules.specs.Evidence.{Violated}
 use Rattle.match_rules.specs.Rules.{RulesValue}
 use Rattle.match_rules.specs.SharesFit.{SharesFit}
-use Rattle.match_rules.specs.Thresholds.{CanFit, CanFitLocked, IsOpenScore, IsThreshold}
+use Rattle.match_rules.specs.Thresholds.{CanFitLocked, IsOpenScore, IsThreshold}
 use Rattle.fair_threshold.specs.declared.found.FoundLevel.{FoundLevel}
 use Rattle.fair_threshold.specs.declared.found.FoundLevel.TheVariants as level
 use Rattle.fair_threshold.specs.declared.found.Threshold.{Threshold}

@@ -6,7 +6,7 @@ use Rattle.match_rules.specs.declared.answer.Sieve.{Sieve}
 use Rattle.match_rules.specs.declared.answer.Sieve.TheVariants.{AtLeast, Above}
 use Rattle.match_rules.specs.Answers.{CutMatches}
 use Rattle.match_rules.specs.Evidence.{Violated}
-use Rattle.match_rules.specs.Rules.{RulesValue, is_locked, most_score, pair_at}
+use Rattle.match_rules.specs.Rules.{RulesValue, is_locked, pair_at}
 use Rattle.match_rules.specs.SharesFit.{SharesFit}
 use Rattle.match_rules.specs.Thresholds.{IsOpenScore}
 use Rattle.bounded_network.specs.declared.network.Arc.{Arc}

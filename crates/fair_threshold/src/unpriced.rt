@@ -11,7 +11,9 @@ use std::alloc::{AllocError, Global};
 fn arcs_of(alloc: Global, arcs: &[Arc]) -> Result<Vec<Arc>, AllocError>
     ensures { IfOk result (λ free. free.items ≡ map unpriced arcs.now) }
 {
-    arcs.iter().map(|arc| Arc { cost: 0, ..*arc }).collect(alloc)
+    arcs.iter()
+        .map(|arc| Arc { cost: 0, ..*arc })
+        .collect(alloc)
 }
 
 /// The same network at no cost. Its circulations are the same, and so are violated marks.

@@ -3,7 +3,7 @@ use Rattle.std.specs.Prelude.{pos}
 use Rattle.match_rules.specs.declared.answer.Sieve.TheVariants.{All as EveryPair, Above}
 use Rattle.match_rules.specs.Rules.{RulesValue, most_score}
 use Rattle.match_rules.specs.SharesFit.{SharesFit}
-use Rattle.fair_threshold.proofs.LevelLaws.{level-met, level-none, not-locked}
+use Rattle.fair_threshold.proofs.LevelLaws.{level-met, not-locked}
 use Rattle.fair_threshold.proofs.SieveLaws.{fit-unused}
 use Rattle.fair_threshold.proofs.levels.asked_level.Goals as goal
 

@@ -15,6 +15,7 @@ returns-in-Fits-clause-level c =
 pub returns-in-Fits-clause-none : goal.returns-in-Fits-clause-none
 returns-in-Fits-clause-none c =
     let all : RulesValue = c.args.rules.now in
-    let fit : SharesFit all (Above (pos most_score)) c.in-Fits._shares = rw c.in-Fits.is at c.in_ok-_shares.ensures in
-    (λ none. absurd none,
-    λ none. none c.in-Fits._shares (shares_fit-more all (Above (pos most_score)) EveryPair c.in-Fits._shares (finer-every_pair (Above (pos most_score))) fit))
+    let fit : SharesFit all (Above (pos most_score)) c.in-Fits._shares = rw c.in-Fits.is at c.in_ok-_shares.ensures in (
+      λ none. absurd none,
+      λ none. none c.in-Fits._shares (shares_fit-more all (Above (pos most_score)) EveryPair c.in-Fits._shares (finer-every_pair (Above (pos most_score))) fit),
+    )
