@@ -1,4 +1,4 @@
-use Rattle.std.proofs.Common.{◌≡◌, List, ℕ, length, ap}
+use Rattle.std.proofs.Common.{◌≡◌, length, ap}
 use Rattle.match_rules.specs.Rules.{RulesValue}
 use Rattle.bounded_network.specs.Compile.{flow_of, node_count}
 use Rattle.bounded_network.specs.Network.{NetworkValue}

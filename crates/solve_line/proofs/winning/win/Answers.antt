@@ -1,6 +1,5 @@
-use Rattle.std.proofs.Common.{◌≡◌, rules, to_z, of_z, ap, ◌∙◌}
+use Rattle.std.proofs.Common.{◌≡◌, rules, to_z, of_z}
 use Rattle.std.specs.Prelude.{ℤ}
-use Rattle.match_rules.specs.declared.answer.Sieve.{Sieve}
 use Rattle.match_rules.specs.Evidence.{bound}
 use Rattle.match_rules.specs.Rules.{RulesValue}
 use Rattle.match_rules.specs.SharesFit.{SharesFit, shares_score}
