@@ -3,13 +3,15 @@ use Rattle.std.specs.Prelude.{◌≡◌, ◌+◌, ◌≤◌, List, length, All}
 use Rattle.match_rules.specs.declared.answer.Answer.{Answer}
 use Rattle.match_rules.specs.declared.answer.Answer.TheVariants.{Lottery, Infeasible}
 use Rattle.match_rules.specs.declared.answer.Blocked.{Blocked}
+use Rattle.match_rules.specs.declared.answer.Level.{Level}
 use Rattle.match_rules.specs.declared.answer.Mode.{Mode}
 use Rattle.match_rules.specs.declared.answer.Sieve.TheVariants.{All as EveryPair}
 use Rattle.match_rules.specs.declared.answer.Winning.{Winning}
 use Rattle.match_rules.specs.declared.lottery.Piece.{Piece}
 use Rattle.match_rules.specs.Rules.{RulesValue}
-use Rattle.match_rules.specs.Answers.{Certified, IsBlocked, Rounded}
+use Rattle.match_rules.specs.Answers.{Certified, CutIsViolated, IsBlocked, LevelIsRight, LevelMatches, Rounded, SuitsMode}
 use Rattle.match_rules.specs.Assignments.{Fits}
+use Rattle.match_rules.specs.Thresholds.{CanFit, sieve_of}
 use Rattle.lottery_peel.specs.Peeling.{unwhole_count}
 
 -- what a verdict holds
@@ -17,6 +19,13 @@ pub record VerdictValue : Type 0 where
   pub rules : RulesValue
   pub mode : Mode
   pub answer : Answer
+
+-- a level that a certified lottery may have in a mode, once some lottery is known to fit under its sieve
+pub record IsLevelFor (rules : RulesValue) (mode : Mode) (level : Level) : Type 0 where
+  pub suits : SuitsMode mode level
+  pub known : LevelMatches rules level
+  pub right : CanFit rules (sieve_of level) → LevelIsRight rules mode level
+  pub above : CutIsViolated rules level
 
 -- a certified lottery: each piece is rounded from its shares, and there is at most one piece more than there are pairs,
 -- groups and reviewers with a sum of shares that is no multiple of the tickets
