@@ -1,5 +1,4 @@
 // Carrying a unit over steps.
-ghost use Rattle.std.specs.Prelude.{};
 ghost use Rattle.bounded_network.specs.Network.{IsCirculation};
 ghost use Rattle.unit_turns.specs.Steps.{AreFree, AreRound, AreTaken};
 

@@ -3,7 +3,6 @@
 //! The network has nodes 0 to 2 and arcs from 0 to 1, from 2 to 1 for exactly one unit, from 2 to 0, and from 1 to 2 for two.
 #![tactic(auto)]
 
-ghost use Rattle.std.specs.Prelude.{IfOk};
 ghost use Rattle.bounded_network.specs.Network.{IsCirculation};
 ghost use Rattle.unit_turns.specs.Over.{AreLinksOver};
 ghost use Rattle.unit_turns.specs.Side.{IsBlank};
