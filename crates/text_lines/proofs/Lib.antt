@@ -2,6 +2,9 @@ pub mod NumberLaws
 pub mod LineLaws
 pub mod TextLaws
 pub mod DueLaws
+pub mod FaultLaws
+pub mod OneFault
+pub mod FormFaults
 pub mod ItemsLaws
 pub mod FieldLaws
 pub mod WordLaws

@@ -6,7 +6,7 @@ ghost use Rattle.text_lines.specs.declared.fault.ReadError.TheVariants as read_e
 use std::alloc::{AllocError, AllocFailed};
 
 /// What is wrong with a line: the first of these, in this order, that applies to it.
-#[derive(Clone, Copy)]
+#[derive(Debug, Clone, Copy, PartialEq, Eq)]
 pub enum LineCode {
     /// It has more bytes before its line feed than a line may have.
     TooLong,
