@@ -15,13 +15,17 @@ mod numbers;
 mod pair_form;
 mod paper_form;
 mod pieces;
+mod refusal;
 mod reviewer_form;
 mod rules_lines;
 mod rules_reading;
 mod rules_writing;
+mod single_texts;
 mod waiting;
 
 pub use answer_writing::write_answer;
-pub use certificate::{Certificate, ReadRefusal, read_certificate};
+pub use certificate::{Certificate, read_certificate};
 pub use checking::check;
+pub use refusal::ReadRefusal;
 pub use rules_writing::write_rules;
+pub use single_texts::{read_answer, read_rules};
