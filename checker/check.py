@@ -23,13 +23,17 @@ VALID, BROKEN, REFUSED = 0, 1, 6
 WHITE_SPACE = {0x20, 0xA0, 0x1680, *range(0x2000, 0x200B), 0x2028, 0x2029, 0x202F, 0x205F, 0x3000}
 
 
+class Wrong(Exception):
+    """A line may not stand where it stands: the first code that applies to it."""
+
+
 class Refused(Exception):
-    """The input is no certificate."""
+    """The input is no certificate: what the line of the refusal says of it."""
 
 
-def require(holds):
+def require(holds, code):
     if not holds:
-        raise Refused
+        raise Wrong(code)
 
 
 # ---- lines, fields and numbers
@@ -41,52 +45,81 @@ class Lines:
     def __init__(self, text):
         self.text = text
         self.at = 0
+        self.number = 0
 
     def next(self):
+        """The line that is due."""
         end = self.text.find(b"\n", self.at)
-        require(end >= 0 and end - self.at <= MOST_LINE)
+        ended = end < 0
+        if ended:
+            end = len(self.text)
+        require(end - self.at <= MOST_LINE, "too-long")
+        if ended:
+            raise Refused("truncated")
         line = self.text[self.at : end]
         self.at = end + 1
         try:
             return line.decode("utf-8")
         except UnicodeDecodeError:
-            raise Refused from None
+            raise Wrong("not-utf8") from None
 
-    def fixed(self, line):
-        require(self.next() == line)
+    def read(self, form):
+        """What a form makes of the line that is due."""
+        self.number += 1
+        try:
+            return form(self.next())
+        except Wrong as wrong:
+            raise Refused(f"line {self.number} {wrong}") from None
+
+    def fixed(self, *lines):
+        """One of these lines."""
+
+        def form(line):
+            require(line in lines, "form")
+            return line
+
+        return self.read(form)
 
     def counted(self, word, least, greatest):
         """The number of a line of a word and a number."""
-        fields = self.next().split(" ")
-        require(len(fields) == 2 and fields[0] == word)
-        return number(fields[1], least, greatest)
+
+        def form(line):
+            fields = line.split(" ")
+            require(len(fields) == 2 and fields[0] == word, "form")
+            [value] = numbers(fields[1:])
+            require(least <= value <= greatest, "range")
+            return value
+
+        return self.read(form)
 
     def section(self, word, least, greatest, item):
         """The items of a section: a line with their number, and a line for each."""
         count = self.counted(word, least, greatest)
         items = []
         for _ in range(count):
-            items.append(item(self.next(), items))
+            items.append(self.read(lambda line: item(line, items)))
         return items
 
     def end(self):
-        require(self.at == len(self.text))
+        if self.at < len(self.text):
+            raise Refused("trailing")
 
 
-def number(text, least, greatest):
-    require(text.isascii() and text.isdigit())
-    require(text == "0" or text[0] != "0")
+def number(text):
+    require(text.isascii() and text.isdigit() and (text == "0" or text[0] != "0"), "number")
     # (a text of more digits than any limit has is out of range, and Python would refuse to read a very long one)
-    require(len(text) <= 20)
-    value = int(text)
-    require(least <= value <= greatest)
-    return value
+    return int(text) if len(text) <= 20 else 10**20
 
 
-def signed(text, greatest):
+def numbers(fields):
+    return [number(field) for field in fields]
+
+
+def signed(text):
     if text.startswith("-"):
-        return -number(text[1:], 1, greatest)
-    return number(text, 0, greatest)
+        require(text != "-0", "number")
+        return -number(text[1:])
+    return number(text)
 
 
 def ascend(items):
@@ -96,11 +129,11 @@ def ascend(items):
 def named(text, forbidden):
     """The bytes of an id."""
     value = text.encode("utf-8")
-    require(1 <= len(value) <= 128)
+    require(1 <= len(value) <= 128, "id")
     for char in text:
         code = ord(char)
-        require(code > 0x1F and not 0x7F <= code <= 0x9F)
-        require(code not in WHITE_SPACE and char not in forbidden)
+        require(code > 0x1F and not 0x7F <= code <= 0x9F, "id")
+        require(code not in WHITE_SPACE and char not in forbidden, "id")
     return value
 
 
@@ -132,34 +165,35 @@ class Rules:
 
 def read_paper(line, before):
     fields = line.split(" ")
-    require(len(fields) == 2)
-    paper = (identifier(fields[0]), number(fields[1], 0, 100))
-    require(not before or before[-1][0] < paper[0])
-    return paper
+    require(len(fields) == 2, "form")
+    demand = number(fields[1])
+    require(demand <= 100 and sum(d for _, d in before) + demand <= 4500, "range")
+    name = identifier(fields[0])
+    require(not before or before[-1][0] < name, "order")
+    return (name, demand)
 
 
 def read_reviewer(line, before):
     fields = line.split(" ")
-    require(len(fields) in (3, 4))
-    greatest = number(fields[2], 0, 1500)
-    least = number(fields[1], 0, greatest)
+    require(len(fields) in (3, 4), "form")
+    least, greatest = numbers(fields[1:3])
+    require(least <= greatest <= 1500, "range")
+    name = identifier(fields[0])
     home = institution(fields[3]) if len(fields) == 4 else None
-    reviewer = (identifier(fields[0]), least, greatest, home)
-    require(not before or before[-1][0] < reviewer[0])
-    return reviewer
+    require(not before or before[-1][0] < name, "order")
+    return (name, least, greatest, home)
 
 
 def read_pair(papers, reviewers):
     def read(line, before):
         fields = line.split(" ")
-        require(len(fields) == 5)
-        paper = number(fields[0], 0, len(papers) - 1)
-        reviewer = number(fields[1], 0, len(reviewers) - 1)
-        score = signed(fields[2], MOST_SCORE)
-        cap = number(fields[4], 0, TICKETS)
-        floor = number(fields[3], 0, cap)
-        require(floor in (0, TICKETS))
-        require(not before or before[-1][:2] < (paper, reviewer))
+        require(len(fields) == 5, "form")
+        paper, reviewer = numbers(fields[:2])
+        score = signed(fields[2])
+        floor, cap = numbers(fields[3:])
+        require(paper < len(papers) and reviewer < len(reviewers) and abs(score) <= MOST_SCORE, "range")
+        require(floor in (0, TICKETS) and floor <= cap <= TICKETS, "range")
+        require(not before or before[-1][:2] < (paper, reviewer), "order")
         return (paper, reviewer, score, floor, cap)
 
     return read
@@ -170,7 +204,6 @@ def read_rules(lines):
     lines.fixed("tickets 10000")
     limit = lines.counted("limit", 1, 1500)
     papers = lines.section("papers", 0, 1500, read_paper)
-    require(sum(demand for _, demand in papers) <= 4500)
     reviewers = lines.section("reviewers", 0, 1500, read_reviewer)
     pairs = lines.section("pairs", 0, 250_000, read_pair(papers, reviewers))
     lines.fixed("end rules")
@@ -180,41 +213,65 @@ def read_rules(lines):
 # ---- the answer
 
 
-def read_places(line, word, count):
+def read_places(word, count):
     """The ascending places behind a word, of which there may be none."""
-    fields = line.split(" ")
-    require(fields[0] == word)
-    places = [number(field, 0, count - 1) for field in fields[1:]]
-    require(ascend(places))
-    return places
+
+    def read(line):
+        fields = line.split(" ")
+        require(fields[0] == word, "form")
+        places = numbers(fields[1:])
+        require(all(place < count for place in places), "range")
+        require(ascend(places), "order")
+        return places
+
+    return read
 
 
 def read_piece(pairs):
     def read(line, before):
-        fields = line.split(" ")
-        weight = number(fields[0], 1, TICKETS)
-        places = [number(field, 0, pairs - 1) for field in fields[1:]]
-        require(ascend(places) and (not before or before[-1][1] < places))
+        weight, *places = numbers(line.split(" "))
+        require(1 <= weight <= TICKETS and all(place < pairs for place in places), "range")
+        require(ascend(places) and (not before or before[-1][1] < places), "order")
         return (weight, places)
 
     return read
 
 
+def read_total(line):
+    fields = line.split(" ")
+    require(len(fields) == 2 and fields[0] == "total", "form")
+    total = signed(fields[1])
+    require(abs(total) <= MOST_TOTAL, "range")
+    return total
+
+
+def read_price(line, _):
+    require(" " not in line, "form")
+    price = signed(line)
+    require(abs(price) <= MOST_PRICE, "range")
+    return price
+
+
+def read_share(line, _):
+    require(" " not in line, "form")
+    share = number(line)
+    require(share <= TICKETS, "range")
+    return share
+
+
 def read_lottery(rules, lines):
     lines.fixed("mode whole")
     lines.fixed("threshold none")
-    fields = lines.next().split(" ")
-    require(len(fields) == 2 and fields[0] == "total")
-    total = signed(fields[1], MOST_TOTAL)
+    total = lines.read(read_total)
 
     def prices(word, count):
-        return lines.section(word, count, count, lambda line, _: signed(line, MOST_PRICE))
+        return lines.section(word, count, count, read_price)
 
     papers = prices("paper-prices", len(rules.papers))
     groups = prices("group-prices", len(rules.groups))
     reviewers = prices("reviewer-prices", len(rules.reviewers))
     count = len(rules.pairs)
-    shares = lines.section("shares", count, count, lambda line, _: number(line, 0, TICKETS))
+    shares = lines.section("shares", count, count, read_share)
     lines.fixed("cut none")
     pieces = lines.section("pieces", 0, TICKETS, read_piece(count))
     lines.fixed("end lottery")
@@ -223,11 +280,10 @@ def read_lottery(rules, lines):
 
 def read_infeasible(rules, lines):
     lines.fixed("mode whole")
-    side = lines.next()
-    require(side in ("cut into", "cut out-of"))
-    papers = read_places(lines.next(), "marked-papers", len(rules.papers))
-    groups = read_places(lines.next(), "marked-groups", len(rules.groups))
-    reviewers = read_places(lines.next(), "marked-reviewers", len(rules.reviewers))
+    side = lines.fixed("cut into", "cut out-of")
+    papers = lines.read(read_places("marked-papers", len(rules.papers)))
+    groups = lines.read(read_places("marked-groups", len(rules.groups)))
+    reviewers = lines.read(read_places("marked-reviewers", len(rules.reviewers)))
     need = lines.counted("need", 0, MOST_AMOUNT)
     room = lines.counted("room", 0, MOST_AMOUNT)
     lines.fixed("end infeasible")
@@ -337,13 +393,11 @@ def check(text):
     try:
         lines = Lines(text)
         rules = read_rules(lines)
-        kind = lines.next()
-        require(kind in ("lottery 1", "infeasible 1"))
-        lottery = kind == "lottery 1"
+        lottery = lines.fixed("lottery 1", "infeasible 1") == "lottery 1"
         answer = (read_lottery if lottery else read_infeasible)(rules, lines)
         lines.end()
-    except Refused:
-        return "refused text", REFUSED
+    except Refused as refused:
+        return f"refused {refused}", REFUSED
     line = (judge_lottery if lottery else judge_infeasible)(rules, answer)
     return line, VALID if line.startswith("valid") else BROKEN
 

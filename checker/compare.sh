@@ -1,7 +1,7 @@
 #!/bin/bash
-# Runs `matcher check` and checker/check.py over the shipped certificates and over copies of them that are spoiled line by
-# line with fixed seeds, and says how many agreed in the line that they wrote and in their status. Ends with 1 where one
-# did not, and shows the first such certificate.
+# Runs `matcher check` and checker/check.py over the shipped certificates, over every cut of the shortest of them, and over
+# copies of them that are spoiled line by line with fixed seeds, and says how many agreed in the line that they wrote and
+# in their status, and how often each refusal was. Ends with 1 where one did not agree, and shows the first such certificate.
 # usage: checker/compare.sh PATH-OF-MATCHER [SPOILED]
 set -eu
 matcher=$(realpath "$1")
@@ -113,11 +113,21 @@ def compare(text, what, theirs):
         print(text.decode(errors="backslashreplace"), end="")
         sys.exit(1)
     words = ours[0].decode().split()
-    counts[" ".join(words[:2]) if ours[1] == 1 or words[1] == "infeasible" else words[0]] += 1
+    if ours[1] == 6:
+        counts[f"refused {words[-1]}"] += 1
+    else:
+        counts[" ".join(words[:2]) if ours[1] == 1 or words[1] == "infeasible" else words[0]] += 1
 
 
 for path, text in zip(paths, originals):
     compare(text, path, ran([sys.executable, "checker/check.py"], text))
+shortest = min(originals, key=len)
+for cut in range(len(shortest)):
+    compare(shortest[:cut], f"a certificate cut after {cut} bytes", checked(shortest[:cut]))
+for longest in [check.MOST_LINE, check.MOST_LINE + 1]:
+    for end in [b"", b"\n"]:
+        text = b"rules 1\n" + b"x" * longest + end
+        compare(text, f"a line of {longest} bytes", checked(text))
 for seed in range(spoiled):
     dice = random.Random(seed)
     text = dice.choice(originals)

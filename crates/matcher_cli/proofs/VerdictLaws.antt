@@ -1,11 +1,13 @@
 -- What is judged is what is checked, and each text has one answer.
-use Rattle.std.proofs.Common.{◌≡◌, ℕ, List, Option, inl, inr, refl, sym, subst}
+use Rattle.std.proofs.Common.{◌≡◌, ◌⊎◌, ℕ, List, Option, inl, inr, refl, sym, ap, subst}
 use Rattle.match_rules.specs.declared.answer.Answer.{Answer}
 use Rattle.match_rules.specs.Rules.{RulesValue}
 use Rattle.publication.specs.Checks.{Holds}
 use Rattle.matcher_cli.specs.declared.status.Status.{Status}
 use Rattle.matcher_cli.specs.declared.status.Status.TheVariants.{Done, Broken, Infeasible, Usage, ReadFault, WriteFault, Refused, Memory}
-use Rattle.matcher_cli.specs.Verdicts.{IsTextOf, Judges, Checks, IsFault, IsExact}
+use Rattle.matcher_cli.specs.Verdicts.{IsTextOf, Judges, Checks, IsFault, IsExact, IsNoText, IsFaultOf, Written, FrontWritten}
+use Rattle.matcher_cli.specs.Lines.{fault_line}
+use Rattle.text_lines.specs.declared.fault.TextFault.{TextFault}
 
 -- what is judged for a text is what is checked
 pub judges_checks : (status : Status) (bytes : List ℕ) (rules : RulesValue) (answer : Answer) (old : List ℕ) (new : Option (List ℕ))
@@ -25,7 +27,11 @@ fault_exact bytes status fault = record {
   valid = λ r a text holds. inr fault;
   invalid = λ r a text broken. inr fault;
   no_text = λ none. inr fault;
+  fault = λ wrong is. inr fault;
 }
+
+abbrev pair_of : RulesValue → Answer → RulesValue × Answer
+pair_of rules answer = (rules, answer)
 
 -- validity is a matter of the bytes, where no other certificate has them
 same_holds : (rules others : RulesValue) (answer other : Answer) → (rules ≡ others) × (answer ≡ other) → Holds others other → Holds rules answer
@@ -38,23 +44,45 @@ holds_too rules others answer other same holds =
     let first : Holds others answer = subst (λ (r : RulesValue). Holds r answer) same.0 holds in
     subst (λ (a : Answer). Holds others a) same.1 first
 
+pub parts_same : (rules others : RulesValue) (answer other : Answer) → pair_of rules answer ≡ pair_of others other → (rules ≡ others) × (answer ≡ other)
+parts_same rules others answer other e = (ap (λ (p : RulesValue × Answer). p.0) e, ap (λ (p : RulesValue × Answer). p.1) e)
+
 -- what is judged for the only certificate of this text is exact
 pub judges_exact : (status : Status) (bytes : List ℕ) (rules : RulesValue) (answer : Answer) (old : List ℕ) (new : Option (List ℕ))
-    → IsTextOf bytes rules answer → ((others : RulesValue) (other : Answer) → IsTextOf bytes others other → (rules ≡ others) × (answer ≡ other))
+    → IsTextOf bytes rules answer → ((wrong : TextFault) → ¬ (IsFaultOf wrong bytes)) → ((others : RulesValue) (other : Answer) → IsTextOf bytes others other → (rules ≡ others) × (answer ≡ other))
     → Judges status rules answer old new → IsExact bytes status
-judges_exact Done bytes rules answer old new text only judged = record {
+judges_exact Done bytes rules answer old new text right only judged = record {
   valid = λ r a t holds. inl refl;
   invalid = λ r a t broken. absurd (broken (holds_too rules r answer a (only r a t) judged.0));
   no_text = λ none. absurd (none rules answer text);
+  fault = λ wrong is. absurd (right wrong is);
 }
-judges_exact Broken bytes rules answer old new text only judged = record {
+judges_exact Broken bytes rules answer old new text right only judged = record {
   valid = λ r a t holds. absurd (judged.1.invalid (same_holds rules r answer a (only r a t) holds));
   invalid = λ r a t broken. inl refl;
   no_text = λ none. absurd (none rules answer text);
+  fault = λ wrong is. absurd (right wrong is);
 }
-judges_exact Infeasible bytes rules answer old new text only judged = absurd judged
-judges_exact Usage bytes rules answer old new text only judged = absurd judged
-judges_exact ReadFault bytes rules answer old new text only judged = absurd judged
-judges_exact WriteFault bytes rules answer old new text only judged = fault_exact bytes WriteFault tt
-judges_exact Refused bytes rules answer old new text only judged = absurd judged
-judges_exact Memory bytes rules answer old new text only judged = fault_exact bytes Memory tt
+judges_exact Infeasible bytes rules answer old new text right only judged = absurd judged
+judges_exact Usage bytes rules answer old new text right only judged = absurd judged
+judges_exact ReadFault bytes rules answer old new text right only judged = absurd judged
+judges_exact WriteFault bytes rules answer old new text right only judged = fault_exact bytes WriteFault tt
+judges_exact Refused bytes rules answer old new text right only judged = absurd judged
+judges_exact Memory bytes rules answer old new text right only judged = fault_exact bytes Memory tt
+
+-- ---- texts that are refused
+
+-- a text of another kind is refused, or writing failed
+pub refused_checks : (status : Status) (fault : TextFault) (bytes old : List ℕ) (new : Option (List ℕ)) → (status ≡ Refused) ⊎ (status ≡ WriteFault) → IsNoText bytes → IsFaultOf fault bytes
+    → (status ≡ Refused → Written old new (fault_line fault)) → (status ≡ WriteFault → FrontWritten old new (fault_line fault)) → Checks status bytes old new
+refused_checks status fault bytes old new (inl is) none wrong written front = rw is (fault, none, wrong, written is)
+refused_checks status fault bytes old new (inr is) none wrong written front = rw is (inr (fault, none, wrong, front is))
+
+pub refused_exact : (status : Status) (bytes : List ℕ) → (status ≡ Refused) ⊎ (status ≡ WriteFault) → IsNoText bytes → IsExact bytes status
+refused_exact status bytes (inl is) none = record {
+  valid = λ r a text holds. absurd (none r a text);
+  invalid = λ r a text broken. absurd (none r a text);
+  no_text = λ other. inl is;
+  fault = λ wrong found. inl is;
+}
+refused_exact status bytes (inr is) none = fault_exact bytes status (rw is tt)

@@ -4,6 +4,10 @@ use Rattle.match_rules.specs.declared.answer.Answer.{Answer}
 use Rattle.match_rules.specs.declared.answer.Answer.TheVariants.{Lottery, Infeasible}
 use Rattle.match_rules.specs.declared.breaks.Break.{Break}
 use Rattle.match_rules.specs.declared.breaks.Break.TheVariants as broken
+use Rattle.text_lines.specs.declared.fault.LineCode.{LineCode}
+use Rattle.text_lines.specs.declared.fault.LineCode.TheVariants as code
+use Rattle.text_lines.specs.declared.fault.TextFault.{TextFault}
+use Rattle.text_lines.specs.declared.fault.TextFault.TheVariants as fault
 use Rattle.text_lines.specs.Labels.{labelled, labelled_signed}
 
 -- labelled numbers and a line feed
@@ -47,6 +51,22 @@ broken_line (broken.Bound total bound) = two_signed (codes "broken 12 total ") t
 broken_line (broken.Counted need room) = two_numbers (codes "broken 13 need ") need (codes " room ") room
 broken_line (broken.NotViolated need room) = two_numbers (codes "broken 14 need ") need (codes " room ") room
 
--- a text that is no certificate
-unfoldable pub refused_line : List ℕ
-refused_line = codes "refused text\n"
+-- the word of a code
+unfoldable pub line_code_word : LineCode → List ℕ
+line_code_word code.TooLong = codes "too-long"
+line_code_word code.NotUtf8 = codes "not-utf8"
+line_code_word code.Form = codes "form"
+line_code_word code.Number = codes "number"
+line_code_word code.Range = codes "range"
+line_code_word code.Id = codes "id"
+line_code_word code.Order = codes "order"
+
+-- the line of a wrong line, by its number and its code
+unfoldable pub wrong_line : ℕ → LineCode → List ℕ
+wrong_line number code = ((labelled (codes "refused line ") number ++ codes " ") ++ line_code_word code) ++ codes "\n"
+
+-- the line of the fault of a text
+unfoldable pub fault_line : TextFault → List ℕ
+fault_line fault.Truncated = codes "refused truncated\n"
+fault_line fault.Trailing = codes "refused trailing\n"
+fault_line (fault.BadLine number code) = wrong_line number code

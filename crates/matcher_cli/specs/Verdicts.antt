@@ -6,9 +6,12 @@ use Rattle.match_rules.specs.declared.breaks.Break.{Break}
 use Rattle.match_rules.specs.Rules.{RulesValue}
 use Rattle.publication.specs.Certificates.{IsCertificate, certificate_text}
 use Rattle.publication.specs.Checks.{check_break_of, Holds}
+use Rattle.publication.specs.DueLines.{certificate_due}
+use Rattle.text_lines.specs.declared.fault.TextFault.{TextFault}
+use Rattle.text_lines.specs.FirstFault.{HasFault}
 use Rattle.matcher_cli.specs.declared.status.Status.{Status}
 use Rattle.matcher_cli.specs.declared.status.Status.TheVariants.{Done, Broken, Infeasible, Usage, ReadFault, WriteFault, Refused, Memory}
-use Rattle.matcher_cli.specs.Lines.{valid_line, broken_line, refused_line}
+use Rattle.matcher_cli.specs.Lines.{valid_line, broken_line, fault_line}
 
 -- bytes that are the text of rules and of an answer to them
 pub record IsTextOf (bytes : List ℕ) (rules : RulesValue) (answer : Answer) : Type 0 where
@@ -52,11 +55,15 @@ Judges Memory rules answer old new = Unit {0}
 abbrev pub IsNoText : List ℕ → Type 0
 IsNoText bytes = (rules : RulesValue) (answer : Answer) → ¬ (IsTextOf bytes rules answer)
 
+-- the first fault of bytes that are no such text; a text has one first fault
+abbrev pub IsFaultOf : TextFault → List ℕ → Type 0
+IsFaultOf fault bytes = HasFault certificate_due bytes (Some fault)
+
 -- a front of the line that is due for the bytes was written
 abbrev pub FrontDue : List ℕ → List ℕ → Option (List ℕ) → Type 0
 FrontDue bytes old new =
     ((rules : RulesValue) × (answer : Answer) × IsTextOf bytes rules answer × FrontWritten old new (judged_line rules answer))
-    ⊎ (IsNoText bytes × FrontWritten old new refused_line)
+    ⊎ ((fault : TextFault) × IsNoText bytes × IsFaultOf fault bytes × FrontWritten old new (fault_line fault))
 
 -- what is answered and written for the bytes of a source, by the status
 abbrev pub Checks : Status → List ℕ → List ℕ → Option (List ℕ) → Type 0
@@ -66,7 +73,7 @@ Checks Infeasible bytes old new = ⊥
 Checks Usage bytes old new = ⊥
 Checks ReadFault bytes old new = Unit {0}
 Checks WriteFault bytes old new = FrontDue bytes old new
-Checks Refused bytes old new = IsNoText bytes × Written old new refused_line
+Checks Refused bytes old new = (fault : TextFault) × IsNoText bytes × IsFaultOf fault bytes × Written old new (fault_line fault)
 Checks Memory bytes old new = Unit {0}
 
 -- a status that says nothing of the bytes: a fault of the source or the sink, or want of memory
@@ -89,3 +96,4 @@ pub record IsExact (bytes : List ℕ) (result : Status) : Type 0 where
   pub valid : (rules : RulesValue) (answer : Answer) → IsTextOf bytes rules answer → Holds rules answer → IsButForFaults Done result
   pub invalid : (rules : RulesValue) (answer : Answer) → IsTextOf bytes rules answer → ¬ (Holds rules answer) → IsButForFaults Broken result
   pub no_text : IsNoText bytes → IsButForFaults Refused result
+  pub fault : (fault : TextFault) → IsFaultOf fault bytes → IsButForFaults Refused result

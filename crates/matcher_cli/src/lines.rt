@@ -1,9 +1,9 @@
 // The lines that the check writes.
 ghost use Rattle.std.specs.Prelude.{◌≡◌, ◌≤◌, length, codes};
-ghost use Rattle.matcher_cli.specs.Lines.{signed_and_number, valid_line, broken_line, one_number, two_numbers, three_numbers, one_signed, two_signed};
+ghost use Rattle.matcher_cli.specs.Lines.{signed_and_number, valid_line, broken_line, one_number, two_numbers, three_numbers, one_signed, two_signed, line_code_word, wrong_line, fault_line};
 
 use match_rules::{Answer, Break};
-use text_lines::LineBuffer;
+use text_lines::{LineBuffer, LineCode, TextFault};
 
 /// A labelled number and a line feed.
 #[tactic(auto, unfolding(crate::specs::Lines::one_number))]
@@ -87,6 +87,55 @@ fn signed_and_number(label: &[u8], number: &i128, other: &[u8], second: u64) -> 
     line.push_labelled(other, second);
     line.push(b"\n");
     line
+}
+
+#[tactic(auto, unfolding(crate::specs::Lines::line_code_word))]
+fn line_code_word(code: LineCode) -> &'static [u8]
+    ensures word { result.now ≡ line_code_word code }
+    ensures few { length result.now ≤ 32 }
+{
+    match code {
+        LineCode::TooLong => b"too-long",
+        LineCode::NotUtf8 => b"not-utf8",
+        LineCode::Form => b"form",
+        LineCode::Number => b"number",
+        LineCode::Range => b"range",
+        LineCode::Id => b"id",
+        LineCode::Order => b"order",
+    }
+}
+
+#[tactic(auto, unfolding(crate::specs::Lines::wrong_line))]
+fn wrong_line(number: u64, code: LineCode) -> LineBuffer
+    ensures { result ≡ wrong_line number code }
+{
+    let mut line = LineBuffer::new();
+    line.push_labelled(b"refused line ", number);
+    line.push(b" ");
+    line.push(line_code_word(code));
+    line.push(b"\n");
+    line
+}
+
+fn only_words(words: &[u8]) -> LineBuffer
+    requires { length words.now ≤ 64 }
+    ensures { result ≡ words.now }
+{
+    let mut line = LineBuffer::new();
+    line.push(words);
+    line
+}
+
+/// The line of the fault of a text.
+#[tactic(auto, unfolding(crate::specs::Lines::fault_line))]
+pub(crate) fn fault_line(fault: TextFault) -> LineBuffer
+    ensures { result ≡ fault_line fault }
+{
+    match fault {
+        TextFault::Truncated => only_words(b"refused truncated\n"),
+        TextFault::Trailing => only_words(b"refused trailing\n"),
+        TextFault::BadLine { number, code } => wrong_line(number, code),
+    }
 }
 
 /// The line of a broken clause.

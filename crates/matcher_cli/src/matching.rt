@@ -6,13 +6,13 @@ ghost use Rattle.edge_io.specs.Told.{told};
 ghost use Rattle.publication.specs.Certificates.{IsCertificate};
 ghost use Rattle.command_words.specs.Usage.{usage_text};
 ghost use Rattle.matcher_cli.specs.FolderRules.{IsServedExactly, RulesServed, rules_in};
-ghost use Rattle.matcher_cli.specs.Lines.{refused_line};
+ghost use Rattle.matcher_cli.specs.Lines.{fault_line};
 ghost use Rattle.matcher_cli.specs.Solving.{IsSolvedExactly, Solves};
 ghost use Rattle.matcher_cli.specs.Words.{Asks, AsksNothing};
 ghost use Rattle.matcher_cli.specs.Verdicts.{IsExact, Judges, Checks, FrontWritten, Written};
 
 use crate::folder_rules::serve_rules;
-use crate::lines::{broken_line, valid_line};
+use crate::lines::{broken_line, fault_line, valid_line};
 use crate::solving::serve_solution;
 use crate::status::Status;
 use command_words::{Command, WordsFault, read_words, usage};
@@ -20,6 +20,7 @@ use edge_io::{Folder, Sink, Source, write_all};
 use match_rules::{Answer, Mode, Rules, Scratch};
 use publication::{ReadRefusal, check, read_certificate};
 use std::alloc::Global;
+use text_lines::TextFault;
 
 // Says that an answer is valid, or its first break.
 fn judge<K: Sink>(alloc: Global, rules: &Rules, answer: &Answer, sink: &mut K) -> Status
@@ -56,15 +57,14 @@ fn refuse_words<K: Sink>(sink: &mut K) -> Status
     }
 }
 
-// Says that the text isn't taken.
-#[tactic(auto, unfolding(crate::specs::Lines::refused_line))]
-fn refuse_text<K: Sink>(sink: &mut K) -> Status
+// Says what is wrong with the text.
+fn refuse_text<K: Sink>(fault: TextFault, sink: &mut K) -> Status
     ensures status { (result ≡ Status.Refused) ⊎ (result ≡ Status.WriteFault) }
-    ensures written { result ≡ Status.Refused → Written (told (K.taken sink.old)) (K.taken sink.new) refused_line }
-    ensures front { result ≡ Status.WriteFault → FrontWritten (told (K.taken sink.old)) (K.taken sink.new) refused_line }
+    ensures written { result ≡ Status.Refused → Written (told (K.taken sink.old)) (K.taken sink.new) (fault_line fault) }
+    ensures front { result ≡ Status.WriteFault → FrontWritten (told (K.taken sink.old)) (K.taken sink.new) (fault_line fault) }
     ensures cause { result ≡ Status.WriteFault → Rose (K.faults sink.old) (K.faults sink.new) }
 {
-    match write_all(sink, b"refused text\n") {
+    match write_all(sink, fault_line(fault).as_slice()) {
         Ok(()) => Status::Refused,
         Err(_) => Status::WriteFault,
     }
@@ -84,7 +84,11 @@ fn check_text<S: Source, K: Sink>(alloc: Global, source: &mut S, sink: &mut K) -
         Ok(certificate) => judge(alloc, &certificate.rules, &certificate.answer, sink),
         Err(ReadRefusal::Memory) => Status::Memory,
         Err(ReadRefusal::ReadFault) => Status::ReadFault,
-        Err(ReadRefusal::Text) => refuse_text(sink),
+        Err(ReadRefusal::Truncated) => refuse_text(TextFault::Truncated, sink),
+        Err(ReadRefusal::Trailing) => refuse_text(TextFault::Trailing, sink),
+        Err(ReadRefusal::BadLine { number, code }) => {
+            refuse_text(TextFault::BadLine { number, code }, sink)
+        }
     }
 }
 
@@ -107,8 +111,8 @@ pub fn matcher<S: Source, K: Sink, F: Folder>(
     ensures usage_front { AsksNothing words.now → result ≡ Status.WriteFault → FrontWritten (told (K.taken sink.old)) (K.taken sink.new) usage_text }
 
     // The check, where the source tells its bytes: 0 comes exactly where they are the text of rules and of a valid
-    // answer, 1 where it breaks a clause, with the line of the first, 6 where they are no such text. Where writing
-    // failed, a front of the line was written.
+    // answer, 1 where it breaks a clause, with the line of the first, 6 where they are no such text, with the line of their
+    // first fault. Where writing failed, a front of the line was written.
     ensures checks { IsSome (S.left source.new) → Asks words.now Command.Check → Checks result (told (S.left source.old)) (told (K.taken sink.old)) (K.taken sink.new) }
     ensures exact { IsSome (S.left source.new) → Asks words.now Command.Check → IsExact (told (S.left source.old)) result }
     ensures end { IsSome (S.left source.new) → Asks words.now Command.Check → (result ≡ Status.Done) ⊎ (result ≡ Status.Broken) → told (S.left source.new) ≡ [] }

@@ -1,5 +1,5 @@
 -- Rules and an answer are read as they are spelled.
-use Rattle.std.proofs.Common.{◌≡◌, ℕ, ◌≤◌, List, All, [], ◌++◌, length, Option, Result, Ok, Err, refl, sym, ap, subst, ◌∙◌, arith}
+use Rattle.std.proofs.Common.{◌≡◌, ℕ, ◌≤◌, List, All, [], ◌++◌, length, Option, Result, Ok, refl, sym, ap, subst, ◌∙◌, append_assoc, arith}
 use Rattle.std.proofs.lemmas.List.{append-nil, nil_from_length}
 use Rattle.std.proofs.lemmas.Bool.{eqb-true}
 use Rattle.match_rules.specs.declared.answer.Answer.{Answer}
@@ -10,9 +10,7 @@ use Rattle.match_rules.proofs.GroupLaws.{group_count_few}
 use Rattle.text_lines.specs.declared.fault.TextFault.{TextFault}
 use Rattle.text_lines.specs.declared.fault.TextFault.TheVariants.{Trailing}
 use Rattle.edge_io.specs.Told.{told}
-use Rattle.text_lines.specs.declared.fault.ReadError.{ReadError}
-use Rattle.text_lines.specs.declared.fault.ReadError.TheVariants.{Text}
-use Rattle.text_lines.specs.Reading.{◌>>=◌, Cursor, Fails, LinesValue, cursor, due, end_at, following}
+use Rattle.text_lines.specs.Reading.{◌>>=◌, Cursor, LinesValue, cursor, due, end_at, following}
 use Rattle.text_lines.specs.Texts.{line_of}
 use Rattle.text_lines.proofs.ItemsLaws.{end_ok}
 use Rattle.text_lines.proofs.TextLaws.{bind_ok, ok_is, guard_ok, item_takes, item_again}
@@ -26,6 +24,7 @@ use Rattle.publication.specs.Certificates.{AreSharesFor, IsAnswerFor, IsCertific
 use Rattle.publication.specs.InfeasibleReading.{infeasible_at}
 use Rattle.publication.specs.RulesReading.{rules_at}
 use Rattle.publication.specs.RulesText.{rules_text}
+use Rattle.publication.specs.WholeTexts.{answer_whole_at, rules_whole_at}
 use Rattle.publication.proofs.CutLaws.{kind_line, kind_spells}
 use Rattle.publication.proofs.InfeasibleLaws.{infeasible_takes, infeasible_again}
 use Rattle.publication.proofs.LotteryLaws.{AreSmall, lottery_takes, lottery_again}
@@ -153,6 +152,75 @@ pub both_texts : (rules : RulesValue) (answer : Answer) → rules_text rules ++ 
 unfolding certificate_text
 both_texts rules answer = refl
 
+-- ---- no text is a front of another one
+
+-- a text that is read whole leaves nothing
+nothing_left : {A : Type 0} (at : Cursor) (x y : A) → (end_at at >>= λ end. Ok x) ≡ Ok y → at.bytes ≡ []
+nothing_left at x y e = let a = bind_ok (end_at at) (λ end. Ok x) y e in end_takes at a.0 a.1
+
+pub certificates_apart : (rules others : RulesValue) (answer other : Answer) (more : List ℕ) → IsCertificate rules answer → IsCertificate others other → certificate_text rules answer ≡ certificate_text others other ++ more → more ≡ []
+unfolding certificate_at certificate_text
+certificates_apart rules others answer other more is too same =
+    let first = rules_again others 1 (answer_text other ++ more) too.rules_kept in
+    let second = answer_again (sizes_of others) first.0 other more (sizes_small others too.rules_kept) too.whole (answer_for others other too.matching too.spelled) in
+    let text : rules_text rules ++ answer_text answer ≡ rules_text others ++ (answer_text other ++ more) = same ∙ append_assoc (rules_text others) (answer_text other) more in
+    let whole = rw text at (certificate_again 1 rules answer is) in
+    let rest : Cursor = record { number = second.0; bytes = more } in
+    nothing_left rest (others, other) (rules, answer) (rw (first.1, second.1) at whole)
+
+pub rules_apart : (rules others : RulesValue) (more : List ℕ) → AreRules rules → AreRules others → rules_text rules ≡ rules_text others ++ more → more ≡ []
+rules_apart rules others more is too same =
+    let first = rules_again others 1 more too in
+    let whole = rules_again rules 1 [] is in
+    let here : rules_at (record { number = 1; bytes = rules_text rules }) ≡ Ok (rules, record { number = whole.0; bytes = [] }) = rw append-nil at whole.1 in
+    let there : rules_at (record { number = 1; bytes = rules_text rules }) ≡ Ok (others, record { number = first.0; bytes = more }) = rw same first.1 in
+    let one = ok_is {E = TextFault} (others, record { number = first.0; bytes = more }) (rules, record { number = whole.0; bytes = [] }) (sym there ∙ here) in
+    ap (λ (p : RulesValue × Cursor). p.1.bytes) one
+
+pub answers_apart : (rules : RulesValue) (answer other : Answer) (more : List ℕ) → IsCertificate rules answer → IsCertificate rules other → answer_text answer ≡ answer_text other ++ more → more ≡ []
+answers_apart rules answer other more is too same =
+    let small = sizes_small rules is.rules_kept in
+    let first = answer_again (sizes_of rules) 1 other more small too.whole (answer_for rules other too.matching too.spelled) in
+    let whole = answer_again (sizes_of rules) 1 answer [] small is.whole (answer_for rules answer is.matching is.spelled) in
+    let here : answer_at (sizes_of rules) (record { number = 1; bytes = answer_text answer }) ≡ Ok (answer, record { number = whole.0; bytes = [] }) = rw append-nil at whole.1 in
+    let there : answer_at (sizes_of rules) (record { number = 1; bytes = answer_text answer }) ≡ Ok (other, record { number = first.0; bytes = more }) = rw same first.1 in
+    let one = ok_is {E = TextFault} (other, record { number = first.0; bytes = more }) (answer, record { number = whole.0; bytes = [] }) (sym there ∙ here) in
+    ap (λ (p : Answer × Cursor). p.1.bytes) one
+
+-- ---- rules alone, and an answer alone
+
+pub rules_whole_takes : (at : Cursor) (rules : RulesValue) → rules_whole_at at ≡ Ok rules → at.bytes ≡ rules_text rules
+unfolding rules_whole_at
+rules_whole_takes at rules e =
+    let a = bind_ok (rules_at at) (λ r. end_at r.1 >>= λ end. Ok r.0) rules e in
+    let c = bind_ok (end_at a.0.1) (λ end. Ok a.0.0) rules a.2 in
+    let first = rules_takes at a.0.1 a.0.0 a.1 in
+    let same = ok_is {E = TextFault} a.0.0 rules c.2 in
+    first.1 ∙ rw (end_takes a.0.1 c.0 c.1, same) (append-nil (rules_text rules))
+
+pub rules_whole_again : (number : ℕ) (rules : RulesValue) → AreRules rules → rules_whole_at (record { number = number; bytes = rules_text rules }) ≡ Ok rules
+unfolding rules_whole_at
+rules_whole_again number rules are =
+    let first = rules_again rules number [] are in
+    let here : rules_at (record { number = number; bytes = rules_text rules }) ≡ Ok (rules, record { number = first.0; bytes = [] }) = rw append-nil at first.1 in
+    rw (here, end_ok (record { number = first.0; bytes = [] }) refl) refl
+
+pub answer_whole_takes : (rules : RulesValue) (at : Cursor) (answer : Answer) → AreRules rules → answer_whole_at (sizes_of rules) at ≡ Ok answer → at.bytes ≡ answer_text answer
+unfolding answer_whole_at
+answer_whole_takes rules at answer kept e =
+    let a = bind_ok (answer_at (sizes_of rules) at) (λ w. end_at w.1 >>= λ end. Ok w.0) answer e in
+    let c = bind_ok (end_at a.0.1) (λ end. Ok a.0.0) answer a.2 in
+    let first = answer_takes (sizes_of rules) at a.0.1 a.0.0 (sizes_small rules kept) a.1 in
+    let same = ok_is {E = TextFault} a.0.0 answer c.2 in
+    first.2 ∙ rw (end_takes a.0.1 c.0 c.1, same) (append-nil (answer_text answer))
+
+pub answer_whole_again : (rules : RulesValue) (number : ℕ) (answer : Answer) → IsCertificate rules answer → answer_whole_at (sizes_of rules) (record { number = number; bytes = answer_text answer }) ≡ Ok answer
+unfolding answer_whole_at
+answer_whole_again rules number answer is =
+    let first = answer_again (sizes_of rules) number answer [] (sizes_small rules is.rules_kept) is.whole (answer_for rules answer is.matching is.spelled) in
+    let here : answer_at (sizes_of rules) (record { number = number; bytes = answer_text answer }) ≡ Ok (answer, record { number = first.0; bytes = [] }) = rw append-nil at first.1 in
+    rw (here, end_ok (record { number = first.0; bytes = [] }) refl) refl
+
 -- ---- from the first byte of a source on
 
 pub text_of_read : (lines : LinesValue) (left : Option (List ℕ)) (rules : RulesValue) (answer : Answer) → lines.unread ≡ [] → certificate_at (cursor lines left) ≡ Ok (rules, answer) → told left ≡ certificate_text rules answer
@@ -164,10 +232,20 @@ read_of_text lines left rules answer none is text =
     let place : lines.unread ++ told left ≡ certificate_text rules answer = ap (λ (t : List ℕ). t ++ told left) none ∙ text in
     rw place (certificate_again lines.number rules answer is)
 
-pub same_parts : (read : Result (RulesValue × Answer) TextFault) (a c : RulesValue) (b d : Answer) → read ≡ Ok (a, b) → read ≡ Ok (c, d) → (a ≡ c) × (b ≡ d)
-same_parts read a c b d p q =
-    let same = ok_is {E = TextFault} (a, b) (c, d) (sym p ∙ q) in
-    (ap (λ (x : RulesValue × Answer). x.0) same, ap (λ (x : RulesValue × Answer). x.1) same)
+-- the one thing that is read, and what else has this text
+pub same_read : {A : Type 0} (read : Result A TextFault) (x y : A) → read ≡ Ok x → read ≡ Ok y → x ≡ y
+same_read read x y p q = ok_is {E = TextFault} x y (sym p ∙ q)
 
-pub not_both : (e : ReadError) (fault : TextFault) (read : Result (RulesValue × Answer) TextFault) (rules : RulesValue) (answer : Answer) → e ≡ Text fault → Fails e read → read ≡ Ok (rules, answer) → ⊥
-not_both e fault read rules answer is fails read_as = let bad : read ≡ Err fault = rw is at fails in cc
+-- where a reader stands at the first byte
+pub first_bytes : (lines : LinesValue) (left : Option (List ℕ)) → lines.unread ≡ [] → (cursor lines left).bytes ≡ told left
+first_bytes lines left none = ap (λ (t : List ℕ). t ++ told left) none
+
+pub rules_of_text : (lines : LinesValue) (left : Option (List ℕ)) (rules : RulesValue) → lines.unread ≡ [] → AreRules rules → told left ≡ rules_text rules → rules_whole_at (cursor lines left) ≡ Ok rules
+rules_of_text lines left rules none are text =
+    let place : lines.unread ++ told left ≡ rules_text rules = first_bytes lines left none ∙ text in
+    rw place (rules_whole_again lines.number rules are)
+
+pub answer_of_text : (rules : RulesValue) (lines : LinesValue) (left : Option (List ℕ)) (answer : Answer) → lines.unread ≡ [] → IsCertificate rules answer → told left ≡ answer_text answer → answer_whole_at (sizes_of rules) (cursor lines left) ≡ Ok answer
+answer_of_text rules lines left answer none is text =
+    let place : lines.unread ++ told left ≡ answer_text answer = first_bytes lines left none ∙ text in
+    rw place (answer_whole_again rules lines.number answer is)

@@ -22,3 +22,9 @@ pub mod CertificateLaws
 pub mod CheckLaws
 pub mod WriteLaws
 pub mod WaitingLaws
+pub mod RulesAgree
+pub mod RulesDue
+pub mod AnswerAgree
+pub mod AnswerDue
+pub mod FaultsFound
+pub mod RefusalLaws

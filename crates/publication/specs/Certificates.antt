@@ -1,5 +1,5 @@
 -- Answers of the mode whole that match their rules, and the text of both.
-use Rattle.std.specs.Prelude.{◌≡◌, ℕ, ◌<◌, ◌≤◌, List, ◌++◌, length, All, Result, Ok, Err}
+use Rattle.std.specs.Prelude.{◌≡◌, ℕ, ◌<◌, ◌≤◌, List, ◌++◌, length, All}
 use Rattle.match_rules.specs.declared.answer.Answer.{Answer}
 use Rattle.match_rules.specs.declared.answer.Answer.TheVariants.{Lottery, Infeasible}
 use Rattle.match_rules.specs.declared.answer.Blocked.{Blocked}
@@ -14,8 +14,6 @@ use Rattle.match_rules.specs.Pieces.{ArePieces}
 use Rattle.match_rules.specs.Rules.{RulesValue, AreRules}
 use Rattle.text_lines.specs.declared.number.TheConstants.{MOST_AMOUNT}
 use Rattle.publication.specs.declared.certificate.Certificate.{Certificate}
-use Rattle.publication.specs.declared.certificate.ReadRefusal.{ReadRefusal}
-use Rattle.publication.specs.declared.certificate.ReadRefusal.TheVariants.{Memory, ReadFault, Text}
 use Rattle.match_rules.specs.declared.sizes.Sizes.{Sizes}
 use Rattle.publication.specs.AnswerText.{lottery_text}
 use Rattle.publication.specs.InfeasibleText.{infeasible_text}
@@ -90,9 +88,6 @@ answer_text (Infeasible blocked) = infeasible_text blocked
 unfoldable pub certificate_text : RulesValue → Answer → List ℕ
 certificate_text rules answer = rules_text rules ++ answer_text answer
 
--- these are read, unless memory ran out or the source failed
-abbrev pub ReadsAs : RulesValue → Answer → Result Certificate ReadRefusal → Type 0
-ReadsAs rules answer (Ok certificate) = (certificate.rules ≡ rules) × (certificate.answer ≡ answer)
-ReadsAs rules answer (Err Memory) = Unit {0}
-ReadsAs rules answer (Err ReadFault) = Unit {0}
-ReadsAs rules answer (Err Text) = ⊥
+-- the rules and the answer of a certificate
+abbrev pub parts_of : Certificate → RulesValue × Answer
+parts_of certificate = (certificate.rules, certificate.answer)

@@ -1,14 +1,19 @@
 // Rules and the answer to them, read from one text.
-ghost use Rattle.std.specs.Prelude.{◌≡◌, ◌≢◌, ◌≤◌, [], IsSome, IfOk, OnOk, IsErrOf, Ok, MatchResult};
+ghost use Rattle.std.specs.Prelude.{◌≡◌, ◌≤◌, ℕ, List, [], ◌++◌, Some, IsSome, IfOk, IfErr, OnOk, IsErrOf, Ok, MatchResult};
 ghost use Rattle.edge_io.specs.Counts.{Rose};
 ghost use Rattle.edge_io.specs.Told.{told, TellsNoMore};
 ghost use Rattle.match_rules.specs.declared.answer.Answer.{Answer};
 ghost use Rattle.match_rules.specs.Rules.{RulesValue};
+ghost use Rattle.text_lines.specs.declared.fault.TextFault.{TextFault};
+ghost use Rattle.text_lines.specs.FirstFault.{HasFault};
 ghost use Rattle.text_lines.specs.Reading.{Fails, FaultHasCause, cursor};
 ghost use Rattle.publication.specs.AnswerReading.{certificate_at};
-ghost use Rattle.publication.specs.Certificates.{IsCertificate, ReadsAs, certificate_text};
+ghost use Rattle.publication.specs.Certificates.{IsCertificate, certificate_text, parts_of};
+ghost use Rattle.publication.specs.DueLines.{certificate_due};
+ghost use Rattle.publication.specs.Refusals.{IsRefused, RefusedFor, ReadAs};
 
 use crate::answer::read_answer;
+use crate::refusal::{ReadRefusal, refusal_of};
 use crate::rules_reading::read_rules;
 use edge_io::Source;
 use match_rules::{Answer, Rules, Sizes};
@@ -20,16 +25,6 @@ use text_lines::{Lines, ReadError};
 pub struct Certificate {
     pub rules: Rules,
     pub answer: Answer,
-}
-
-/// Why no certificate was read.
-#[derive(Debug, Clone, Copy, PartialEq, Eq)]
-pub enum ReadRefusal {
-    Memory,
-    /// The source failed.
-    ReadFault,
-    /// The bytes aren't the text of a certificate.
-    Text,
 }
 
 #[tactic(auto, unfolding(crate::specs::AnswerReading::certificate_at))]
@@ -51,8 +46,8 @@ fn read_parts<S: Source>(
 }
 
 /// Reads the text of rules and of the answer to them, all that the source has. Takes the memory of the rules, of the
-/// answer, of the longest line and 65,536 bytes. For now an answer is of the mode whole: all other bytes are refused as
-/// `Text`.
+/// answer, of the longest line and 65,536 bytes. For now an answer is of the mode whole: one of the mode fair is refused
+/// for the form of its line. Lines are counted through both texts, from 1.
 pub fn read_certificate<S: Source>(
     alloc: Global,
     source: &mut S,
@@ -61,10 +56,17 @@ pub fn read_certificate<S: Source>(
     ensures matching { IfOk result (λ certificate. IsCertificate certificate.rules certificate.answer) }
 
     // Where the source tells its bytes: they are the text of what is read, nothing is left of them, and only they are
-    // read so. So `Text` comes only where they aren't the text of a certificate.
+    // read so.
     ensures found { IsSome (S.left source.new) → IfOk result (λ certificate. told (S.left source.old) ≡ certificate_text certificate.rules certificate.answer) }
     ensures end { IsSome (S.left source.new) → OnOk result (told (S.left source.new) ≡ []) }
-    ensures only { IsSome (S.left source.new) → (rules : RulesValue) (answer : Answer) → IsCertificate rules answer → told (S.left source.old) ≡ certificate_text rules answer → ReadsAs rules answer result }
+    ensures only { IsSome (S.left source.new) → (rules : RulesValue) (answer : Answer) → IsCertificate rules answer → told (S.left source.old) ≡ certificate_text rules answer → ReadAs parts_of (rules, answer) result }
+
+    // Other bytes are refused, exactly for their first fault.
+    ensures refused { IsSome (S.left source.new) → IfErr result (IsRefused certificate_due (told (S.left source.old))) }
+    ensures exact { IsSome (S.left source.new) → (fault : TextFault) → HasFault certificate_due (told (S.left source.old)) (Some fault) → RefusedFor fault result }
+
+    // No certificate is a front of another one.
+    ensures apart { (rules others : RulesValue) (answer other : Answer) (more : List ℕ) → IsCertificate rules answer → IsCertificate others other → certificate_text rules answer ≡ certificate_text others other ++ more → more ≡ [] }
 
     ensures untold { TellsNoMore (S.left source.old) (S.left source.new) }
     ensures later { S.faults source.old ≤ S.faults source.new }
@@ -75,8 +77,6 @@ pub fn read_certificate<S: Source>(
     };
     match read_parts(alloc, lines, source) {
         Ok(certificate) => Ok(certificate),
-        Err(ReadError::Memory) => Err(ReadRefusal::Memory),
-        Err(ReadError::ReadFault) => Err(ReadRefusal::ReadFault),
-        Err(ReadError::Text(_)) => Err(ReadRefusal::Text),
+        Err(error) => Err(refusal_of(error)),
     }
 }

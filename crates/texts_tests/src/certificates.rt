@@ -1,9 +1,12 @@
 // Certificates: read, written and checked where memory is ample, and refused for a line of an id.
 use edge_io::{SureSink, SureSource};
-use match_rules::{Scratch, matches};
-use publication::{Certificate, ReadRefusal, check, read_certificate, write_rules};
+use match_rules::{Rules, Scratch, matches};
+use publication::{
+    Certificate, ReadRefusal, check, read_answer, read_certificate, read_rules, write_rules,
+};
 use std::alloc::{AllocError, Global};
 use std::test::Fail;
+use text_lines::LineCode;
 
 // Two papers and two reviewers, of whom r2 has an institution.
 const RULES: &str =
@@ -60,26 +63,72 @@ fn rules_are_written_as_they_were_read(rt: HostRuntime) -> Result<(), Fail> {
     Ok(())
 }
 
-// Whether rules of these papers and reviewers are refused, where nothing else is wrong.
-fn refuses(alloc: Global, papers: &str, reviewers: &str) -> Result<bool, Fail> {
+// Why a text of these papers and reviewers isn't read, where nothing else is wrong.
+fn refusal_of(alloc: Global, papers: &str, reviewers: &str) -> Result<Option<ReadRefusal>, Fail> {
     let rules = format!(in alloc;
         "rules 1\ntickets 10000\nlimit 1\npapers 2\n{papers}reviewers 2\n{reviewers}pairs 0\nend rules\n"
     )?;
     let answer =
         "lottery 1\nmode whole\nthreshold none\ntotal 0\npaper-prices 2\n0\n0\ngroup-prices 0\nreviewer-prices 2\n0\n0\nshares 0\ncut none\npieces 1\n10000\nend lottery\n";
-    Ok(matches!(read(alloc, rules.as_str(), answer)?, Err(ReadRefusal::Text)))
+    Ok(read(alloc, rules.as_str(), answer)?.err())
+}
+
+fn bad_line(number: u64, code: LineCode) -> Option<ReadRefusal> {
+    Some(ReadRefusal::BadLine { number, code })
 }
 
 #[test]
 fn lines_of_ids_are_refused(rt: HostRuntime) -> Result<(), Fail> {
-    assert!(rt; !refuses(rt.alloc(), "p1 0\np2 0\n", "r1 0 1\nr2 0 1 u\n")?);
-    for (papers, reviewers) in [
-        ("p,1 0\np2 0\n", "r1 0 1\nr2 0 1 u\n"),
-        ("p2 0\np1 0\n", "r1 0 1\nr2 0 1 u\n"),
-        ("p1 0\np2 0\n", "r1 0 1\nr2 0 1 u;v\n"),
-        ("p1 0\np2 0\n", "r2 0 1\nr1 0 1 u\n"),
+    let alloc = rt.alloc();
+    let ids = ("p1 0\np2 0\n", "r1 0 1\nr2 0 1 u\n");
+    assert_eq!(rt; refusal_of(alloc, ids.0, ids.1)?, None);
+    for (papers, reviewers, number, code) in [
+        ("p,1 0\np2 0\n", ids.1, 5, LineCode::Id),
+        ("p2 0\np1 0\n", ids.1, 6, LineCode::Order),
+        (ids.0, "r1 0 1\nr2 0 1 u;v\n", 9, LineCode::Id),
+        (ids.0, "r2 0 1\nr1 0 1 u\n", 9, LineCode::Order),
     ] {
-        assert!(rt; refuses(rt.alloc(), papers, reviewers)?);
+        assert_eq!(rt;
+            refusal_of(alloc, papers, reviewers)?,
+            bad_line(number, code)
+        );
     }
+    Ok(())
+}
+
+#[test]
+fn each_cut_is_truncated(rt: HostRuntime) -> Result<(), Fail> {
+    let alloc = rt.alloc();
+    let mut bytes = Vec::from_slice(alloc, RULES.as_bytes())?;
+    bytes.extend_from_slice(LOTTERY.as_bytes())?;
+    for length in 0..bytes.len() {
+        let cut = Vec::from_slice(alloc, &bytes[..length])?;
+        let read = read_certificate(alloc, &mut SureSource::new(cut));
+        assert_eq!(rt; read.err(), Some(ReadRefusal::Truncated));
+    }
+    Ok(())
+}
+
+fn rules_of(alloc: Global, text: &str) -> Result<Result<Rules, ReadRefusal>, AllocError> {
+    let bytes = Vec::from_slice(alloc, text.as_bytes())?;
+    Ok(read_rules(alloc, &mut SureSource::new(bytes)))
+}
+
+#[test]
+fn rules_and_an_answer_are_read_alone(rt: HostRuntime) -> Result<(), Fail> {
+    let alloc = rt.alloc();
+    let rules = rules_of(alloc, RULES)??;
+    assert!(rt; read_answer(alloc, &rules, LOTTERY.as_bytes()).is_ok());
+    let both = format!(in alloc; "{RULES}{LOTTERY}")?;
+    assert_eq!(rt;
+        rules_of(alloc, both.as_str())?.err(),
+        Some(ReadRefusal::Trailing)
+    );
+    // Lines are counted from the first of the answer.
+    let fair = "lottery 1\nmode fair\n";
+    assert_eq!(rt;
+        read_answer(alloc, &rules, fair.as_bytes()).err(),
+        bad_line(2, LineCode::Form)
+    );
     Ok(())
 }

@@ -1,4 +1,4 @@
-use Rattle.matcher_cli.proofs.VerdictLaws.{judges_checks, judges_exact}
+use Rattle.matcher_cli.proofs.VerdictLaws.{judges_checks, judges_exact, parts_same, refused_checks, refused_exact}
 use Rattle.matcher_cli.proofs.matching.check_text.Goals as goal
 
 pub returns-in-Ok-clause-checks : goal.returns-in-Ok-clause-checks
@@ -8,4 +8,5 @@ returns-in-Ok-clause-checks g c = λ tells.
 pub returns-in-Ok-clause-exact : goal.returns-in-Ok-clause-exact
 returns-in-Ok-clause-exact g c = λ tells.
     judges_exact c.judge.result _ _ _ _ _ (record { certificate = c.in-Ok.ensures.matching; text = c.in-Ok.ensures.found tells })
-    (λ others other text. c.in-Ok.ensures.only tells others other text.certificate text.text) c.judge.ensures.judges
+    (λ wrong is. c.in-Ok.ensures.exact tells wrong is)
+    (λ others other text. parts_same _ _ _ _ (c.in-Ok.ensures.only tells others other text.certificate text.text)) c.judge.ensures.judges
