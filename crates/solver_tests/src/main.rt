@@ -4,7 +4,8 @@
 //! each reviewer, where `-` is no institution, then `PAPER REVIEWER SCORE FLOOR CAP` for each pair, by their places, with white
 //! space between the words; an empty line stands between two rules. The answer is `best TOTAL places COUNT` where the prices show that
 //! the shares are best, with the places that the whole assignment of the network of rounded amounts fills, `violated` where the
-//! cut shows that no lottery fits, and `unproved` where neither shows anything.
+//! cut shows that no lottery fits, and `unproved` where neither shows anything. The next line is the level of the rules in the mode
+//! fair: `level SCORE`, `level free` or `level none`.
 #![tactic(auto)]
 
 ghost use Rattle.std.specs.Prelude.{◌≡◌, length};
@@ -12,6 +13,7 @@ ghost use Rattle.std.specs.Prelude.{◌≡◌, length};
 use anyhow::{Context, bail};
 use bounded_network::{Amounts, compile, cut_of, prices_of, shares_of};
 use dual_check::{is_best, is_violated};
+use fair_threshold::{FoundLevel, level_of};
 use flow_solver::{Solution, solve};
 use match_rules::{
     Institution, PaperId, ReviewerId, RulePair, RulePaper, RuleReviewer, Rules, Shares, Sieve,
@@ -188,6 +190,15 @@ fn run(rt: &HostRuntime) -> anyhow::Result<()> {
             Shown::Best { total, places } => println!(rt; "best {total} places {places}")?,
             Shown::Violated => println!(rt; "violated")?,
             Shown::Nothing => println!(rt; "unproved")?,
+        }
+        match level_of(alloc, &rules)? {
+            FoundLevel::Free => println!(rt; "level free")?,
+            FoundLevel::At {
+                score,
+                shares: _shares,
+                cut: _cut,
+            } => println!(rt; "level {score}")?,
+            FoundLevel::NoneFits { cut: _cut } => println!(rt; "level none")?,
         }
     }
     Ok(())
