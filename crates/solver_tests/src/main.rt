@@ -4,8 +4,8 @@
 //! each reviewer, where `-` is no institution, then `PAPER REVIEWER SCORE FLOOR CAP` for each pair, by their places, with white
 //! space between the words; an empty line stands between two rules. The answer is `best TOTAL places COUNT` where the prices show that
 //! the shares are best, with the places that the whole assignment of the network of rounded amounts fills, `violated` where the
-//! cut shows that no lottery fits, and `unproved` where neither shows anything. Last comes the cheapest circulation of two nodes
-//! after other bounds of an arc.
+//! cut shows that no lottery fits, and `unproved` where neither shows anything. The next line is the level of the rules in the mode
+//! fair: `level SCORE`, `level free` or `level none`. Last comes the cheapest circulation of two nodes after other bounds of an arc.
 #![tactic(auto)]
 
 ghost use Rattle.std.specs.Prelude.{◌≡◌, length};
@@ -13,6 +13,7 @@ ghost use Rattle.std.specs.Prelude.{◌≡◌, length};
 use anyhow::{Context, bail};
 use bounded_network::{Amounts, Arc, Network, compile, cut_of, prices_of, shares_of};
 use dual_check::{is_best, is_violated};
+use fair_threshold::{FoundLevel, level_of};
 use flow_solver::{Solution, solve};
 use match_rules::{
     Institution, PaperId, ReviewerId, RulePair, RulePaper, RuleReviewer, Rules, Shares, Sieve,
@@ -215,6 +216,20 @@ fn show_rebound(rt: &HostRuntime) -> anyhow::Result<()> {
     Ok(())
 }
 
+// The level of the rules in the mode fair.
+fn show_level(rt: &HostRuntime, rules: &Rules) -> anyhow::Result<()> {
+    match level_of(rt.alloc(), rules)? {
+        FoundLevel::Free => println!(rt; "level free")?,
+        FoundLevel::At {
+            score,
+            shares: _shares,
+            cut: _cut,
+        } => println!(rt; "level {score}")?,
+        FoundLevel::NoneFits { cut: _cut } => println!(rt; "level none")?,
+    }
+    Ok(())
+}
+
 fn run(rt: &HostRuntime) -> anyhow::Result<()> {
     let alloc = rt.alloc();
     let mut bytes = Vec::new(alloc);
@@ -226,6 +241,7 @@ fn run(rt: &HostRuntime) -> anyhow::Result<()> {
             Shown::Violated => println!(rt; "violated")?,
             Shown::Nothing => println!(rt; "unproved")?,
         }
+        show_level(rt, &rules)?;
     }
     show_rebound(rt)
 }
