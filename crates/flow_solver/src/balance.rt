@@ -19,7 +19,7 @@ use residual_arcs::Links;
 use std::alloc::{AllocError, Global};
 
 // How many links searches may go over for each arc before a network counts as hard.
-const PATIENCE: usize = 40;
+const PATIENCE: usize = 20;
 
 /// What came of all excesses.
 #[derive(Drop)]

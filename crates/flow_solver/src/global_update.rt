@@ -1,171 +1,217 @@
 // Global updates of a phase (Goldberg 1997): all potentials fall as far as the excesses need to find their ways to deficits.
 //
-// The length of a step with room is 0 where its reduced cost is negative, and else how often its start would have to fall
-// by epsilon until it is. A search backwards from the deficits finds how far each node is, until all excesses are reached.
-ghost use Rattle.std.specs.Prelude.{◌≡◌, ◌+◌, ◌<◌, length, IfOk, OnOk};
-ghost use Rattle.flow_solver.specs.Coarse.{IsCoarse};
-ghost use Rattle.flow_solver.specs.Links.{IsLinkWithin};
+// The rank of a node says how often it would have to fall by epsilon. A step with room from one node to another adds nothing
+// where its reduced cost is negative, and else as much as its start would have to fall until it is. A search backwards from the
+// deficits, over buckets of nodes of equal rank (Dial 1969), finds the ranks, until all excesses are reached.
+ghost use Rattle.std.specs.Prelude.{◌≡◌, ◌<◌, ◌≤◌, length, IfOk, OnOk, IfSome, All};
+ghost use Rattle.flow_solver.specs.Coarse.{IsCoarse, AreRanks};
 ghost use Rattle.residual_arcs.specs.Links.{AreLinks};
 ghost use Rattle.flow_solver.specs.State.{IsWithin};
 
-use crate::coarse::{Coarse, relabelled, room_in, set_potential};
+use crate::coarse::{Coarse, relabelled, set_potential};
 use crate::links::link_of;
-use crate::queue::{Queue, empty, pop, push};
-use crate::search::UNREACHED;
-use bounded_network::Network;
-use residual_arcs::{Link, Links};
+use bounded_network::{MAX_COST, Network};
+use residual_arcs::Links;
 use std::alloc::{AllocError, Global};
 
-/// How far each node is from a deficit, the nodes that wait, the distance that was settled last, and how many nodes with an
-/// excess aren't reached yet.
+// The greatest rank: nodes that are further have it too.
+const LAST_RANK: u32 = 4095;
+
+// The rank of a node that is not reached.
+const UNRANKED: u32 = u32::MAX;
+
+/// A node that waits in a bucket, and one more than the place of the next one there, or 0.
+#[derive(Clone, Copy)]
+pub struct Waiting {
+    pub node: u32,
+    pub next: usize,
+}
+
+/// The rank of each node, for each rank one more than the place of the first node that waits there, or 0, all that ever waited,
+/// the rank that is settled now, and how many nodes with an excess aren't reached yet.
 #[derive(Drop)]
-pub struct Nearness {
-    pub distances: Vec<u64>,
-    waiting: Queue,
-    last: u64,
-    missing: u32,
+pub struct Ranks {
+    pub each: Vec<u32>,
+    pub first: Vec<usize>,
+    pub waiting: Vec<Waiting>,
+    pub rank: u32,
+    pub missing: u32,
 }
 
-// The reduced cost of the step that comes back over a link at the cost, from one potential to the other.
-fn reduced_back(from: i64, to: i64, cost: i64) -> i64
-    requires from_small { IsWithin 8000000000 from }
-    requires to_small { IsWithin 8000000000 to }
-    requires cost_small { IsWithin 8000000000 cost }
-{
-    from - to - cost
-}
-
-// The length of a step with room.
-fn length_of(reduced: i64, epsilon: i64) -> u64 {
+// How often the start of a step with the reduced cost has to fall by epsilon until it is negative.
+fn falls(reduced: i64, epsilon: i64) -> u32 {
     if reduced < 0 || epsilon < 1 {
         return 0;
     }
-    (reduced as u64 / epsilon as u64).saturating_add(1)
+    let falls = (reduced as u64 / epsilon as u64).saturating_add(1);
+    falls.min(LAST_RANK as u64) as u32
 }
 
-// A search that has reached the nodes with a deficit alone.
-fn from_deficits(alloc: Global, net: &Network, coarse: &Coarse) -> Result<Nearness, AllocError>
-    requires coarse { IsCoarse net.now coarse.now }
-    ensures { IfOk result (λ near. length near.distances.items ≡ net.now.nodes) }
+// Lets the node wait at the rank.
+fn wait_at(net: &Network, ranks: &mut Ranks, node: u32, rank: u32) -> Result<(), AllocError>
+    requires ranks { AreRanks net.now ranks.old }
+    requires node_in { node < net.now.nodes }
+    requires rank_in { rank ≤ 4095 }
+    ensures { OnOk result (AreRanks net.now ranks.new) }
 {
-    let mut distances = vec![in alloc; UNREACHED; net.nodes() as usize]?;
-    let mut waiting = empty(alloc);
-    let mut missing: u32 = 0;
-    for node in 0..net.nodes() {
-        let excess = coarse.excess[node as usize];
-        if excess < 0 {
-            distances[node as usize] = 0;
-            push(&mut waiting, 0, node)?;
-        } else if excess > 0 {
-            missing = missing.saturating_add(1);
+    let _nodes = net.nodes();
+    let next = ranks.first[rank as usize];
+    ranks.each[node as usize] = rank;
+    ranks.waiting.push(Waiting { node, next })?;
+    ranks.first[rank as usize] = ranks.waiting.len();
+    Ok(())
+}
+
+// Takes the next node of the least rank from those that wait.
+fn take_next(net: &Network, ranks: &mut Ranks) -> Option<u32>
+    requires ranks { AreRanks net.now ranks.old }
+    ensures ranks { AreRanks net.now ranks.new }
+    ensures node { IfSome result (λ node. node < net.now.nodes) }
+{
+    for rank in ranks.rank..LAST_RANK + 1 {
+        let first = ranks.first[rank as usize];
+        if first > 0 && first <= ranks.waiting.len() {
+            let waiting = ranks.waiting[first - 1];
+            ranks.first[rank as usize] = waiting.next;
+            ranks.rank = rank;
+            return Some(waiting.node);
         }
     }
-    Ok(Nearness {
-        distances,
-        waiting,
-        last: 0,
-        missing,
-    })
+    None
 }
 
-// Reaches the end of the node's link, if a step with room comes from there.
+// Reaches the node if it has a deficit, and counts it if it has an excess.
+fn begin_at(net: &Network, ranks: &mut Ranks, node: u32, excess: i64) -> Result<(), AllocError>
+    requires ranks { AreRanks net.now ranks.old }
+    requires node_in { node < net.now.nodes }
+    ensures { OnOk result (AreRanks net.now ranks.new) }
+{
+    if excess < 0 {
+        return wait_at(net, ranks, node, 0);
+    }
+    if excess > 0 {
+        ranks.missing = ranks.missing.saturating_add(1);
+    }
+    Ok(())
+}
+
+// The ranks where the nodes with a deficit alone are reached.
+fn from_deficits(
+    alloc: Global,
+    net: &Network,
+    links: &Links,
+    coarse: &Coarse,
+) -> Result<Ranks, AllocError>
+    requires coarse { IsCoarse net.now links.now coarse.now }
+    ensures { IfOk result (λ ranks. AreRanks net.now ranks) }
+{
+    let mut ranks = Ranks {
+        each: vec![in alloc; UNRANKED; net.nodes() as usize]?,
+        first: vec![in alloc; 0usize; LAST_RANK as usize + 1]?,
+        waiting: Vec::new(alloc),
+        rank: 0,
+        missing: 0,
+    };
+    for node in 0..net.nodes() {
+        begin_at(net, &mut ranks, node, coarse.excess[node as usize])?;
+    }
+    Ok(ranks)
+}
+
+// Reaches the end of the node's link at the place, if a step with room comes from there.
 fn reach_over(
     net: &Network,
+    links: &Links,
     coarse: &Coarse,
-    near: &mut Nearness,
+    ranks: &mut Ranks,
     node: u32,
-    link: Link,
+    place: usize,
 ) -> Result<(), AllocError>
-    requires coarse { IsCoarse net.now coarse.now }
-    requires near { length near.old.distances.items ≡ net.now.nodes }
+    requires coarse { IsCoarse net.now links.now coarse.now }
+    requires links { AreLinks net.now links.now }
+    requires ranks { AreRanks net.now ranks.old }
     requires node_in { node < net.now.nodes }
-    requires link { IsLinkWithin net.now link }
-    ensures { OnOk result (length near.new.distances.items ≡ net.now.nodes) }
+    requires place_in { place < length links.now.all.items }
+    ensures { OnOk result (AreRanks net.now ranks.new) }
 {
-    let reduced = reduced_back(
-        coarse.potentials[link.to as usize],
-        coarse.potentials[node as usize],
-        link.cost,
-    );
-    let distance = near.distances[node as usize].saturating_add(length_of(reduced, coarse.epsilon));
-    if distance >= near.distances[link.to as usize] {
+    let link = link_of(net, links, place);
+    let had = ranks.each[link.to as usize];
+    if had <= ranks.rank {
         return Ok(());
     }
-    if room_in(coarse.left[link.step.arc as usize], !link.step.forward) == 0 {
+    let even = coarse.potentials[node as usize].saturating_add(link.cost);
+    let reduced = coarse.potentials[link.to as usize].saturating_sub(even);
+    let rank = ranks
+        .rank
+        .saturating_add(falls(reduced, coarse.epsilon))
+        .min(LAST_RANK);
+    let twin = coarse.twins[place];
+    if rank >= had || twin >= coarse.left.len() || coarse.left[twin] <= 0 {
         return Ok(());
     }
-    near.distances[link.to as usize] = distance;
-    push(&mut near.waiting, distance, link.to)?;
-    Ok(())
+    wait_at(net, ranks, link.to, rank)
 }
 
 // Settles the node: reaches what steps lead to it from.
-fn settle_near(
+fn settle(
     net: &Network,
     links: &Links,
     coarse: &Coarse,
-    near: &mut Nearness,
+    ranks: &mut Ranks,
     node: u32,
 ) -> Result<(), AllocError>
-    requires coarse { IsCoarse net.now coarse.now }
+    requires coarse { IsCoarse net.now links.now coarse.now }
     requires links { AreLinks net.now links.now }
-    requires near { length near.old.distances.items ≡ net.now.nodes }
+    requires ranks { AreRanks net.now ranks.old }
     requires node_in { node < net.now.nodes }
-    ensures { OnOk result (length near.new.distances.items ≡ net.now.nodes) }
+    ensures { OnOk result (AreRanks net.now ranks.new) }
 {
-    near.last = near.distances[node as usize];
+    if ranks.each[node as usize] < ranks.rank {
+        return Ok(());
+    }
     if coarse.excess[node as usize] > 0 {
-        near.missing = near.missing.saturating_sub(1);
+        ranks.missing = ranks.missing.saturating_sub(1);
     }
     for place in links.starts[node as usize]..links.starts[node as usize + 1] {
-        let link = link_of(net, links, place);
-        reach_over(net, coarse, near, node, link)?;
+        reach_over(net, links, coarse, ranks, node, place)?;
     }
     Ok(())
 }
 
-// Settles the nearest node that waits, if it isn't settled already. Says whether the search goes on.
-fn settle_next(
+// The ranks of the nodes, as far as excesses are.
+fn ranks_of(
+    alloc: Global,
     net: &Network,
     links: &Links,
     coarse: &Coarse,
-    near: &mut Nearness,
-) -> Result<bool, AllocError>
-    requires coarse { IsCoarse net.now coarse.now }
+) -> Result<Ranks, AllocError>
+    requires coarse { IsCoarse net.now links.now coarse.now }
     requires links { AreLinks net.now links.now }
-    requires near { length near.old.distances.items ≡ net.now.nodes }
-    ensures { OnOk result (length near.new.distances.items ≡ net.now.nodes) }
+    ensures { IfOk result (λ ranks. AreRanks net.now ranks) }
 {
-    let Some((distance, node)) = pop(&mut near.waiting) else {
-        return Ok(false);
-    };
-    if node < net.nodes() && near.distances[node as usize] == distance {
-        settle_near(net, links, coarse, near, node)?;
+    let mut ranks = from_deficits(alloc, net, links, coarse)?;
+    for _settled in 0..net.nodes() as usize + 2 * net.arcs().len() {
+        if ranks.missing == 0 {
+            break;
+        }
+        match take_next(net, &mut ranks) {
+            Some(node) => settle(net, links, coarse, &mut ranks, node)?,
+            None => break,
+        }
     }
-    Ok(near.missing > 0)
+    Ok(ranks)
 }
 
-// A potential that falls by epsilon as often as there are steps, to the least one at most.
-fn fallen(potential: i64, epsilon: i64, steps: u64) -> i64
+// A node's potential once it has fallen by its rank, or as far as the search came. Where some excesses can't find any way, what
+// wasn't reached falls to the bottom, so that those rest there.
+fn fallen(potential: i64, epsilon: i64, ranks: &Ranks, rank: u32) -> i64
     ensures { IsWithin 8000000000 result }
 {
-    let steps = steps.min(u32::MAX as u64) as i64;
-    relabelled(potential, epsilon.saturating_mul(steps))
-}
-
-// Lowers the potential of each node by its distance. What the search didn't come to falls as far as what it settled last.
-fn lower_all(net: &Network, links: &Links, coarse: &mut Coarse, near: &Nearness)
-    requires coarse { IsCoarse net.now coarse.old }
-    requires links { AreLinks net.now links.now }
-    requires near { length near.now.distances.items ≡ net.now.nodes }
-    ensures { IsCoarse net.now coarse.new }
-{
-    for node in 0..net.nodes() {
-        let steps = near.distances[node as usize].min(near.last);
-        let value = fallen(coarse.potentials[node as usize], coarse.epsilon, steps);
-        set_potential(net, coarse, node, value);
-        coarse.next[node as usize] = links.starts[node as usize];
+    if rank == UNRANKED && ranks.missing > 0 {
+        return -MAX_COST;
     }
+    let falls = rank.min(ranks.rank) as i64;
+    relabelled(potential, epsilon.saturating_mul(falls))
 }
 
 /// Lowers all potentials as far as the excesses need.
@@ -175,17 +221,16 @@ pub fn update_globally(
     links: &Links,
     coarse: &mut Coarse,
 ) -> Result<(), AllocError>
-    requires coarse { IsCoarse net.now coarse.old }
+    requires coarse { IsCoarse net.now links.now coarse.old }
     requires links { AreLinks net.now links.now }
-    ensures { OnOk result (IsCoarse net.now coarse.new) }
+    ensures { OnOk result (IsCoarse net.now links.now coarse.new) }
 {
-    let mut near = from_deficits(alloc, net, coarse)?;
-    for _settled in 0..net.nodes() as usize + 2 * net.arcs().len() {
-        let goes_on = settle_next(net, links, coarse, &mut near)?;
-        if !goes_on {
-            break;
-        }
+    let ranks = ranks_of(alloc, net, links, coarse)?;
+    for node in 0..net.nodes() {
+        let potential = coarse.potentials[node as usize];
+        let value = fallen(potential, coarse.epsilon, &ranks, ranks.each[node as usize]);
+        set_potential(net, links, coarse, node, value);
     }
-    lower_all(net, links, coarse, &near);
+    coarse.relabels = 0;
     Ok(())
 }

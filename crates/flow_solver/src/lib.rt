@@ -26,11 +26,13 @@ mod links;
 mod path;
 mod push;
 mod queue;
+mod refinement;
 mod scaling;
 mod search;
 mod solver;
 mod start;
 mod state;
+mod twins;
 mod unit;
 
 pub use solver::{Solution, solve};

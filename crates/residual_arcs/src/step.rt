@@ -20,6 +20,7 @@ pub fn arc_count(net: &Network) -> u32
     net.arcs().len() as u32
 }
 
+/// The arc at the place.
 pub fn arc_of(net: &Network, place: u32) -> Arc
     requires { place < length net.now.arcs }
     ensures value { result ≡ arc_at net.now place }
@@ -29,18 +30,22 @@ pub fn arc_of(net: &Network, place: u32) -> Arc
     net.arcs()[place as usize]
 }
 
+/// The node that a step over the arc leaves: its tail, or going back its head.
 pub fn start(arc: Arc, forward: bool) -> u32
     ensures { result ≡ start_of arc forward }
 {
     if forward { arc.tail } else { arc.head }
 }
 
+/// The node that a step over the arc enters: its head, or going back its tail.
 pub fn end(arc: Arc, forward: bool) -> u32
     ensures { result ≡ end_of arc forward }
 {
     if forward { arc.head } else { arc.tail }
 }
 
+/// How much more a step over the arc may carry where the arc carries the amount: up to its room, or going back down to its
+/// floor.
 pub fn left(arc: Arc, amount: u64, forward: bool) -> u64
     requires least { arc.floor ≤ amount }
     requires most { amount ≤ arc.room }
@@ -53,6 +58,7 @@ pub fn left(arc: Arc, amount: u64, forward: bool) -> u64
     }
 }
 
+/// What a unit costs that a step over the arc carries: the arc's cost, which a step back gives back.
 pub fn cost(arc: Arc, forward: bool) -> i64
     requires low { negsuc 7999999999 ≤ℤ arc.cost }
     requires high { arc.cost ≤ℤ pos 8000000000 }

@@ -1,9 +1,5 @@
-use Rattle.std.proofs.Common.{◌-◌}
 use Rattle.flow_solver.specs.Coarse.{IsCoarse}
 use Rattle.flow_solver.proofs.coarse.push_excess.Given as goal
 
 abbrev pub invariant-loop-place : goal.invariant-loop-place
-invariant-loop-place l = IsCoarse l.net l.coarse
-
-abbrev pub decreases-loop-place : goal.decreases-loop-place
-decreases-loop-place l = l.end - l.place
+invariant-loop-place l = IsCoarse l.net l.links l.coarse

@@ -1,5 +1,5 @@
-use Rattle.std.proofs.Common.{◌≡◌, length}
+use Rattle.flow_solver.specs.Coarse.{AreRanks}
 use Rattle.flow_solver.proofs.global_update.from_deficits.Given as goal
 
 abbrev pub invariant-loop-node : goal.invariant-loop-node
-invariant-loop-node l = length l.distances.items ≡ l.net.nodes
+invariant-loop-node l = AreRanks l.net l.ranks

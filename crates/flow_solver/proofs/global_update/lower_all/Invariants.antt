@@ -1,5 +1,0 @@
-use Rattle.flow_solver.specs.Coarse.{IsCoarse}
-use Rattle.flow_solver.proofs.global_update.lower_all.Given as goal
-
-abbrev pub invariant-loop-node : goal.invariant-loop-node
-invariant-loop-node l = IsCoarse l.net l.coarse

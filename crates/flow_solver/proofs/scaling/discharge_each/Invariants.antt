@@ -1,5 +1,0 @@
-use Rattle.flow_solver.specs.Coarse.{IsCoarse}
-use Rattle.flow_solver.proofs.scaling.discharge_each.Given as goal
-
-abbrev pub invariant-loop-place : goal.invariant-loop-place
-invariant-loop-place l = IsCoarse l.net l.coarse
