@@ -1,0 +1,165 @@
+//! Runs the cases of its standard input: names and rows. The names come first, one a line. It says of each whether it may
+//! name a chair and a source, and of a chair's name the row by which that chair draws publication 1 with its own name.
+//!
+//! Behind each line `row` stands a row, up to the next such line or the end. It prints `bad row`, or the command with the
+//! length of its body, whether its row has the same bytes again, and whether these keep the same command. Two keepers
+//! then append the row, one that never fails and one of which the third and the fifteenth call fail. At the end it prints
+//! the lengths of the rows that each keeps.
+#![tactic(auto)]
+
+ghost use Rattle.std.specs.Prelude.{◌≡◌, IfOk, IfSome, true};
+ghost use Rattle.desk_keeper.specs.Keepers.{IsNext};
+ghost use Rattle.desk_keeper.specs.Names.{is_chair_name};
+ghost use Rattle.desk_keeper.specs.Rows.{MayKeep};
+
+use anyhow::{Context, bail};
+use desk_keeper::{
+    Bytes, Command, KeepFault, Keeper, Kept, MemoryKeeper, Name, Named, RowFault, SureKeeper,
+    decode, encode, is_chair_name, is_source_name,
+};
+use std::alloc::{AllocError, Global};
+use std::io::Read;
+use std::str;
+
+// The row by which a chair draws publication 1 with its own name, as its command number 0.
+fn draw_row(alloc: Global, name: &str) -> Result<Vec<u8>, AllocError>
+    requires { is_chair_name name.now ≡ true }
+{
+    let caller = Name::from_string(String::from_str(alloc, name)?);
+    let text = Bytes::from_vec(Vec::from_slice(alloc, name.as_bytes())?);
+    let command = Command::Draw {
+        publication: 1,
+        text,
+    };
+    let named = Named {
+        caller,
+        number: 0,
+        command,
+    };
+    encode(alloc, &named, &[])
+}
+
+fn show_name(rt: &HostRuntime, name: &str) -> anyhow::Result<()> {
+    println!(rt; "name {name} source {}", is_source_name(name))?;
+    if is_chair_name(name) {
+        let row = draw_row(rt.alloc(), name)?;
+        println!(rt; "chair {}", str::from_utf8(row.as_slice())?)?;
+    }
+    Ok(())
+}
+
+fn command_word(command: &Command) -> &'static str {
+    match command {
+        Command::Edit { .. } => "edit",
+        Command::Submit { .. } => "submit",
+        Command::Publish { .. } => "publish",
+        Command::Draw { .. } => "draw",
+    }
+}
+
+fn body_length(kept: &Kept) -> usize {
+    match &kept.named.command {
+        Command::Edit { edit, .. } => edit.body.as_slice().len(),
+        Command::Submit { .. } => 0,
+        Command::Publish { .. } => kept.lottery.as_slice().len(),
+        Command::Draw { text, .. } => text.as_slice().len(),
+    }
+}
+
+// What a row keeps, where it is one.
+fn read_row(alloc: Global, row: &[u8]) -> anyhow::Result<Option<Kept>>
+    ensures { IfOk result (λ found. IfSome found (λ kept. MayKeep kept.named kept.lottery)) }
+{
+    match decode(alloc, row) {
+        Ok(kept) => Ok(Some(kept)),
+        Err(RowFault::BadRow) => Ok(None),
+        Err(RowFault::Memory) => bail!("memory was wanting"),
+    }
+}
+
+fn is_same(first: &Kept, second: Kept) -> bool {
+    let Kept { named, lottery } = second;
+    first.named.command.is_same(&named.command)
+        && first.named.number == named.number
+        && first.named.caller.as_str() == named.caller.into_string().as_str()
+        && first.lottery.as_slice() == lottery.into_vec().as_slice()
+}
+
+fn show_row(rt: &HostRuntime, kept: &Kept, row: &[u8]) -> anyhow::Result<()>
+    requires { MayKeep kept.now.named kept.now.lottery }
+{
+    let again = encode(rt.alloc(), &kept.named, kept.lottery.as_slice())?;
+    let same = match read_row(rt.alloc(), again.as_slice())? {
+        Some(other) => is_same(kept, other),
+        None => false,
+    };
+    let word = command_word(&kept.named.command);
+    let caller = kept.named.caller.as_str();
+    println!(rt; "{word} {caller} {} body {}", kept.named.number, body_length(kept))?;
+    println!(rt; "bytes {} command {same}", again.as_slice() == row)?;
+    Ok(())
+}
+
+// Appends a row at a place, says what the keeper answers, and gives the next place.
+fn keep<K: Keeper>(rt: &HostRuntime, keeper: &mut K, place: u64, row: &[u8]) -> anyhow::Result<u64>
+    requires { IsNext (K.rows keeper.old) place }
+    ensures { IfOk result (λ next. IsNext (K.rows keeper.new) next) }
+{
+    match keeper.append(rt.alloc(), place, row) {
+        Ok(()) => {
+            println!(rt; "kept at {place}")?;
+            Ok(place.checked_add(1).context("the places are used up")?)
+        }
+        Err(KeepFault::Failed) => {
+            println!(rt; "failed")?;
+            Ok(place)
+        }
+        Err(KeepFault::Memory) => bail!("memory was wanting"),
+    }
+}
+
+// The lengths of the rows that a keeper tells at the places up to this one.
+fn show_rows<K: Keeper>(rt: &HostRuntime, keeper: &mut K, last: u64) -> anyhow::Result<()> {
+    for place in 0..=last {
+        match keeper.read(rt.alloc(), place) {
+            Ok(Some(row)) => println!(rt; "{place} length {}", row.len())?,
+            Ok(None) => println!(rt; "{place} none")?,
+            Err(KeepFault::Failed) => println!(rt; "{place} failed")?,
+            Err(KeepFault::Memory) => bail!("memory was wanting"),
+        }
+    }
+    Ok(())
+}
+
+fn show_rows_of(rt: &HostRuntime, text: &str) -> anyhow::Result<()> {
+    let alloc = rt.alloc();
+    let mut sure = SureKeeper::new(alloc);
+    let mut listed = MemoryKeeper::new(Vec::new(alloc), Vec::from_slice(alloc, &[3, 15])?);
+    let (mut sure_place, mut listed_place) = (0, 0);
+    for row in text.split("row\n") {
+        let Some(kept) = read_row(alloc, row.as_bytes())? else {
+            println!(rt; "bad row")?;
+            continue;
+        };
+        show_row(rt, &kept, row.as_bytes())?;
+        sure_place = keep(rt, &mut sure, sure_place, row.as_bytes())?;
+        listed_place = keep(rt, &mut listed, listed_place, row.as_bytes())?;
+    }
+    show_rows(rt, &mut sure, sure_place)?;
+    show_rows(rt, &mut listed, listed_place)
+}
+
+fn run(rt: &HostRuntime) -> anyhow::Result<()> {
+    let mut bytes = Vec::new(rt.alloc());
+    rt.stdin().read_to_end(&mut bytes)?;
+    let text = str::from_utf8(bytes.as_slice())?;
+    let (names, rows) = text.split_once("row\n").context("there is no row")?;
+    for name in names.lines() {
+        show_name(rt, name)?;
+    }
+    show_rows_of(rt, rows)
+}
+
+fn main(rt: HostRuntime) -> anyhow::Result<()> {
+    run(&rt)
+}
