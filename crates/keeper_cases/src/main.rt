@@ -7,15 +7,17 @@
 //! the lengths of the rows that each keeps.
 #![tactic(auto)]
 
+mod keepers;
+
 ghost use Rattle.std.specs.Prelude.{◌≡◌, IfOk, IfSome, true};
-ghost use Rattle.desk_keeper.specs.Keepers.{IsNext};
 ghost use Rattle.desk_keeper.specs.Names.{is_chair_name};
 ghost use Rattle.desk_keeper.specs.Rows.{MayKeep};
 
+use crate::keepers::{keep, show_rows};
 use anyhow::{Context, bail};
 use desk_keeper::{
-    Bytes, Command, KeepFault, Keeper, Kept, MemoryKeeper, Name, Named, RowFault, SureKeeper,
-    decode, encode, is_chair_name, is_source_name,
+    Bytes, Command, Kept, MemoryKeeper, Name, Named, RowFault, SureKeeper, decode, encode,
+    is_chair_name, is_source_name,
 };
 use std::alloc::{AllocError, Global};
 use std::io::Read;
@@ -95,39 +97,12 @@ fn show_row(rt: &HostRuntime, kept: &Kept, row: &[u8]) -> anyhow::Result<()>
     };
     let word = command_word(&kept.named.command);
     let caller = kept.named.caller.as_str();
-    println!(rt; "{word} {caller} {} body {}", kept.named.number, body_length(kept))?;
+    println!(rt;
+        "{word} {caller} {} body {}",
+        kept.named.number,
+        body_length(kept)
+    )?;
     println!(rt; "bytes {} command {same}", again.as_slice() == row)?;
-    Ok(())
-}
-
-// Appends a row at a place, says what the keeper answers, and gives the next place.
-fn keep<K: Keeper>(rt: &HostRuntime, keeper: &mut K, place: u64, row: &[u8]) -> anyhow::Result<u64>
-    requires { IsNext (K.rows keeper.old) place }
-    ensures { IfOk result (λ next. IsNext (K.rows keeper.new) next) }
-{
-    match keeper.append(rt.alloc(), place, row) {
-        Ok(()) => {
-            println!(rt; "kept at {place}")?;
-            Ok(place.checked_add(1).context("the places are used up")?)
-        }
-        Err(KeepFault::Failed) => {
-            println!(rt; "failed")?;
-            Ok(place)
-        }
-        Err(KeepFault::Memory) => bail!("memory was wanting"),
-    }
-}
-
-// The lengths of the rows that a keeper tells at the places up to this one.
-fn show_rows<K: Keeper>(rt: &HostRuntime, keeper: &mut K, last: u64) -> anyhow::Result<()> {
-    for place in 0..=last {
-        match keeper.read(rt.alloc(), place) {
-            Ok(Some(row)) => println!(rt; "{place} length {}", row.len())?,
-            Ok(None) => println!(rt; "{place} none")?,
-            Err(KeepFault::Failed) => println!(rt; "{place} failed")?,
-            Err(KeepFault::Memory) => bail!("memory was wanting"),
-        }
-    }
     Ok(())
 }
 
