@@ -8,7 +8,6 @@ use Rattle.match_rules.specs.declared.answer.Side.{Side}
 use Rattle.match_rules.specs.declared.answer.Side.TheVariants.{Into, OutOf}
 use Rattle.match_rules.specs.declared.answer.Sieve.{Sieve}
 use Rattle.match_rules.specs.declared.answer.Sieve.TheVariants.{AtLeast}
-use Rattle.match_rules.specs.declared.rules.TheConstants.{MOST_TICKETS}
 use Rattle.match_rules.specs.Assignments.{keeps, lets_pass, cap_under}
 use Rattle.match_rules.specs.Evidence.{Violated, need_by, room_by, tail_marked, head_marked, enters, leaves, floors_where, caps_where}
 use Rattle.match_rules.specs.Rules.{RulesValue, AreRules, is_locked, pair_at}
@@ -84,11 +83,11 @@ floors-same rules one other e across are within = by (are.pairs.each e within).w
     nothing true floor none = none
     nothing false floor none = refl
 
-    by : ((pair_at rules e).floor ≡ 0) ⊎ ((pair_at rules e).floor ≡ MOST_TICKETS)
+    by : ((pair_at rules e).floor ≡ 0) ⊎ ((pair_at rules e).floor ≡ rules.tickets)
         → when (keeps rules one e && across) (pair_at rules e).floor ≡ when (keeps rules other e && across) (pair_at rules e).floor
     by (inl none) = nothing (keeps rules one e && across) (pair_at rules e).floor none ∙ sym (nothing (keeps rules other e && across) (pair_at rules e).floor none)
     by (inr all) =
-        let locked : is_locked rules e ≡ true = eq-eqb (pair_at rules e).floor rules.tickets (all ∙ sym are.tickets) in
+        let locked : is_locked rules e ≡ true = eq-eqb (pair_at rules e).floor rules.tickets all in
         rw locked refl
 
 caps-less : (rules : RulesValue) (fine coarse : Sieve) (e : ℕ) (across : Bool) → IsFiner fine coarse

@@ -162,7 +162,7 @@ pub certificates_apart : (rules others : RulesValue) (answer other : Answer) (mo
 unfolding certificate_at certificate_text
 certificates_apart rules others answer other more is too same =
     let first = rules_again others 1 (answer_text other ++ more) too.rules_kept in
-    let second = answer_again (sizes_of others) first.0 other more (sizes_small others too.rules_kept) too.whole (answer_for others other too.matching too.spelled) in
+    let second = answer_again (sizes_of others) first.0 other more (sizes_small others too.rules_kept) too.whole (answer_for others other too.rules_kept too.matching too.spelled) in
     let text : rules_text rules ++ answer_text answer ≡ rules_text others ++ (answer_text other ++ more) = same ∙ append_assoc (rules_text others) (answer_text other) more in
     let whole = rw text at (certificate_again 1 rules answer is) in
     let rest : Cursor = record { number = second.0; bytes = more } in
@@ -180,8 +180,8 @@ rules_apart rules others more is too same =
 pub answers_apart : (rules : RulesValue) (answer other : Answer) (more : List ℕ) → IsCertificate rules answer → IsCertificate rules other → answer_text answer ≡ answer_text other ++ more → more ≡ []
 answers_apart rules answer other more is too same =
     let small = sizes_small rules is.rules_kept in
-    let first = answer_again (sizes_of rules) 1 other more small too.whole (answer_for rules other too.matching too.spelled) in
-    let whole = answer_again (sizes_of rules) 1 answer [] small is.whole (answer_for rules answer is.matching is.spelled) in
+    let first = answer_again (sizes_of rules) 1 other more small too.whole (answer_for rules other too.rules_kept too.matching too.spelled) in
+    let whole = answer_again (sizes_of rules) 1 answer [] small is.whole (answer_for rules answer is.rules_kept is.matching is.spelled) in
     let here : answer_at (sizes_of rules) (record { number = 1; bytes = answer_text answer }) ≡ Ok (answer, record { number = whole.0; bytes = [] }) = rw append-nil at whole.1 in
     let there : answer_at (sizes_of rules) (record { number = 1; bytes = answer_text answer }) ≡ Ok (other, record { number = first.0; bytes = more }) = rw same first.1 in
     let one = ok_is {E = TextFault} (other, record { number = first.0; bytes = more }) (answer, record { number = whole.0; bytes = [] }) (sym there ∙ here) in
@@ -217,7 +217,7 @@ answer_whole_takes rules at answer kept e =
 pub answer_whole_again : (rules : RulesValue) (number : ℕ) (answer : Answer) → IsCertificate rules answer → answer_whole_at (sizes_of rules) (record { number = number; bytes = answer_text answer }) ≡ Ok answer
 unfolding answer_whole_at
 answer_whole_again rules number answer is =
-    let first = answer_again (sizes_of rules) number answer [] (sizes_small rules is.rules_kept) is.whole (answer_for rules answer is.matching is.spelled) in
+    let first = answer_again (sizes_of rules) number answer [] (sizes_small rules is.rules_kept) is.whole (answer_for rules answer is.rules_kept is.matching is.spelled) in
     let here : answer_at (sizes_of rules) (record { number = number; bytes = answer_text answer }) ≡ Ok (answer, record { number = first.0; bytes = [] }) = rw append-nil at first.1 in
     rw (here, end_ok (record { number = first.0; bytes = [] }) refl) refl
 
