@@ -44,7 +44,9 @@ fn run(rt: &HostRuntime) -> anyhow::Result<()> {
     print!(rt; "status {status}\n{rules}")?;
     let mut line = SureSink::new(alloc);
     let status = checked(rt, Vec::from_slice(alloc, certificate.bytes())?, &mut line)?;
-    let (judgement, _) = str::from_utf8(line.bytes())?.split_once(" pieces ").context("no count of pieces")?;
+    let (judgement, _) = str::from_utf8(line.bytes())?
+        .split_once(" pieces ")
+        .context("no count of pieces")?;
     print!(rt; "status {status}\n{judgement}\n")?;
     Ok(())
 }
