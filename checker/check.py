@@ -259,9 +259,40 @@ def read_share(line, _):
     return share
 
 
+def read_level(mode):
+    """The threshold of a lottery: a score, or the word that stands in its place."""
+
+    def read(line):
+        fields = line.split(" ")
+        require(len(fields) == 2 and fields[0] == "threshold", "form")
+        if fields[1] == ("none" if mode == "mode whole" else "free"):
+            return fields[1]
+        try:
+            score = signed(fields[1])
+        except Wrong:
+            score = MOST_SCORE + 1
+        require(mode == "mode fair" and abs(score) <= MOST_SCORE, "form")
+        return score
+
+    return read
+
+
+class Cut:
+    """Marked papers, groups and reviewers, and the side on which they stand."""
+
+    def __init__(self, rules, lines, side):
+        self.side = side
+        self.papers = set(lines.read(read_places("marked-papers", len(rules.papers))))
+        self.groups = set(lines.read(read_places("marked-groups", len(rules.groups))))
+        self.reviewers = set(lines.read(read_places("marked-reviewers", len(rules.reviewers))))
+
+
+SIDES = ("cut into", "cut out-of")
+
+
 def read_lottery(rules, lines):
-    lines.fixed("mode whole")
-    lines.fixed("threshold none")
+    mode = lines.fixed("mode whole", "mode fair")
+    level = lines.read(read_level(mode))
     total = lines.read(read_total)
 
     def prices(word, count):
@@ -272,22 +303,23 @@ def read_lottery(rules, lines):
     reviewers = prices("reviewer-prices", len(rules.reviewers))
     count = len(rules.pairs)
     shares = lines.section("shares", count, count, read_share)
-    lines.fixed("cut none")
+    cut = None
+    if isinstance(level, str):
+        lines.fixed("cut none")
+    else:
+        cut = Cut(rules, lines, lines.fixed(*SIDES))
     pieces = lines.section("pieces", 0, TICKETS, read_piece(count))
     lines.fixed("end lottery")
-    return total, papers, groups, reviewers, shares, pieces
+    return mode, level, total, (papers, groups, reviewers), shares, cut, pieces
 
 
 def read_infeasible(rules, lines):
-    lines.fixed("mode whole")
-    side = lines.fixed("cut into", "cut out-of")
-    papers = lines.read(read_places("marked-papers", len(rules.papers)))
-    groups = lines.read(read_places("marked-groups", len(rules.groups)))
-    reviewers = lines.read(read_places("marked-reviewers", len(rules.reviewers)))
+    lines.fixed("mode whole", "mode fair")
+    cut = Cut(rules, lines, lines.fixed(*SIDES))
     need = lines.counted("need", 0, MOST_AMOUNT)
     room = lines.counted("room", 0, MOST_AMOUNT)
     lines.fixed("end infeasible")
-    return side, set(papers), set(groups), set(reviewers), need, room
+    return cut, need, room
 
 
 # ---- the clauses
@@ -318,19 +350,41 @@ def broken_piece(rules, pieces):
     return None
 
 
-def bound_of(rules, papers, groups, reviewers):
+def kept_pairs(rules, keeps):
+    """The pairs that take part, with their groups: those that are locked, and those with a score that is kept."""
+    return [(pair, g) for pair, g in zip(rules.pairs, rules.group_of) if pair[3] == TICKETS or keeps(pair[2])]
+
+
+def bound_of(rules, keeps, prices):
+    papers, groups, reviewers = prices
     bound = sum(demand * a for (_, demand), a in zip(rules.papers, papers))
     bound += sum(rules.limit * b for b in groups if b > 0)
     bound += sum(max(least * c, greatest * c) for (_, least, greatest, _), c in zip(rules.reviewers, reviewers))
     bound *= TICKETS
-    for (p, r, score, floor, cap), g in zip(rules.pairs, rules.group_of):
+    for (p, r, score, floor, cap), g in kept_pairs(rules, keeps):
         rest = score - papers[p] - reviewers[r] - (0 if g is None else groups[g])
         bound += max(floor * rest, cap * rest)
     return bound
 
 
+def broken_level(rules, level, shares, cut):
+    """The first of the clauses 8 to 10 that a level breaks."""
+    open_pairs = [(e, pair[2]) for e, pair in enumerate(rules.pairs) if pair[3] != TICKETS]
+    for e, score in open_pairs:
+        if shares[e] > 0 and (level == "free" or (cut and score < level)):
+            return f"broken 8 pair {e}"
+    if not cut:
+        return None
+    if all(score != level for _, score in open_pairs):
+        return f"broken 9 score {level}"
+    need, room = sums_of_cut(rules, lambda score: score > level, cut)
+    if need <= room:
+        return f"broken 10 need {need} room {room}"
+    return None
+
+
 def judge_lottery(rules, answer):
-    total, papers, groups, reviewers, shares, pieces = answer
+    mode, level, total, prices, shares, cut, pieces = answer
     weights = sum(weight for weight, _ in pieces)
     if weights != TICKETS:
         return f"broken 1 sum {weights}"
@@ -347,20 +401,24 @@ def judge_lottery(rules, answer):
     for e, pair in enumerate(rules.pairs):
         if times[e] > pair[4]:
             return f"broken 7 pair {e}"
+    broken = broken_level(rules, level, shares, cut)
+    if broken:
+        return broken
     counted = sum(share * pair[2] for share, pair in zip(shares, rules.pairs))
     if counted != total:
         return f"broken 11 printed {total} counted {counted}"
-    bound = bound_of(rules, papers, groups, reviewers)
+    bound = bound_of(rules, lambda score: not cut or score >= level, prices)
     if bound != total:
         return f"broken 12 total {total} bound {bound}"
-    return f"valid whole threshold none total {total} pieces {len(pieces)}"
+    return f"valid {mode[5:]} threshold {level} total {total} pieces {len(pieces)}"
 
 
-def sums_of_cut(rules, side, papers, groups, reviewers):
-    """The need and the room of a cut."""
+def sums_of_cut(rules, keeps, cut):
+    """The need and the room of a cut, over the pairs that take part."""
+    papers, groups, reviewers = cut.papers, cut.groups, cut.reviewers
     demand = TICKETS * sum(rules.papers[p][1] for p in papers)
     entering = leaving = entering_floors = leaving_floors = 0
-    for (p, r, _, floor, cap), g in zip(rules.pairs, rules.group_of):
+    for (p, r, _, floor, cap), g in kept_pairs(rules, keeps):
         tail = p in papers if g is None else g in groups
         head = r in reviewers
         if head and not tail:
@@ -368,7 +426,7 @@ def sums_of_cut(rules, side, papers, groups, reviewers):
         if tail and not head:
             leaving, leaving_floors = leaving + cap, leaving_floors + floor
     of_paper = [p in papers for p, _ in rules.groups]
-    if side == "cut into":
+    if cut.side == "cut into":
         room = TICKETS * sum(rules.reviewers[r][2] for r in reviewers) + leaving
         room += TICKETS * rules.limit * sum(1 for g, marked in enumerate(of_paper) if marked and g not in groups)
         return demand + entering_floors, room
@@ -379,8 +437,8 @@ def sums_of_cut(rules, side, papers, groups, reviewers):
 
 
 def judge_infeasible(rules, answer):
-    side, papers, groups, reviewers, printed_need, printed_room = answer
-    need, room = sums_of_cut(rules, side, papers, groups, reviewers)
+    cut, printed_need, printed_room = answer
+    need, room = sums_of_cut(rules, lambda _: True, cut)
     if (need, room) != (printed_need, printed_room):
         return f"broken 13 need {need} room {room}"
     if need <= room:
