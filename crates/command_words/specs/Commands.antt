@@ -3,7 +3,7 @@ use Rattle.std.specs.Prelude.{ℕ, List, [], ◌∷◌, Option, None, Some, if�
 use Rattle.std.specs.Option.{option_map}
 use Rattle.std.specs.Str.{bytes_eq}
 use Rattle.match_rules.specs.declared.answer.Mode.{Mode}
-use Rattle.match_rules.specs.declared.answer.Mode.TheVariants.{Whole}
+use Rattle.match_rules.specs.declared.answer.Mode.TheVariants.{Whole, Fair}
 use Rattle.command_words.specs.declared.words.Command.{Command}
 use Rattle.command_words.specs.declared.words.Command.TheVariants.{Check, Rules, Solve}
 
@@ -12,9 +12,10 @@ abbrev pub command_of_word : List ℕ → Option Command
 command_of_word word =
     if bytes_eq word (codes "check") then Some Check else (if bytes_eq word (codes "rules") then Some Rules else None)
 
--- the mode that a word names: whole alone, for now
+-- the mode that a word names
 abbrev pub mode_of_word : List ℕ → Option Mode
-mode_of_word word = if bytes_eq word (codes "whole") then Some Whole else None
+mode_of_word word =
+    if bytes_eq word (codes "whole") then Some Whole else (if bytes_eq word (codes "fair") then Some Fair else None)
 
 -- the command that two words ask for
 abbrev pub command_of_two : List ℕ → List ℕ → Option Command

@@ -60,12 +60,13 @@ fn command_of_word(word: &str) -> Option<Command>
     }
 }
 
-// The mode that a word names: whole alone, for now.
+// The mode that a word names.
 fn mode_of_word(word: &str) -> Option<Mode>
     ensures { result ≡ mode_of_word word.now }
 {
     match word {
         "whole" => Some(Mode::Whole),
+        "fair" => Some(Mode::Fair),
         _ => None,
     }
 }

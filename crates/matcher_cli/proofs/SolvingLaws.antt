@@ -3,7 +3,9 @@ use Rattle.std.proofs.Common.{◌≡◌, ℕ, List, Option, Result, Ok, Err, inl
 use Rattle.edge_io.specs.FileValues.{FileValue}
 use Rattle.match_rules.specs.declared.answer.Answer.{Answer}
 use Rattle.match_rules.specs.declared.answer.Answer.TheVariants.{Lottery, Infeasible}
+use Rattle.match_rules.specs.declared.answer.Mode.{Mode}
 use Rattle.match_rules.specs.declared.answer.Mode.TheVariants.{Whole}
+use Rattle.match_rules.specs.declared.answer.Winning.{Winning}
 use Rattle.match_rules.specs.declared.answer.Sieve.TheVariants.{All as EveryPair}
 use Rattle.match_rules.specs.Assignments.{Best}
 use Rattle.match_rules.specs.Rules.{RulesValue, AreRules}
@@ -12,7 +14,7 @@ use Rattle.editions.specs.declared.venue.Edited.{Edited}
 use Rattle.editions.specs.Loads.{IsLoadAnswer, venue_in}
 use Rattle.publication.specs.Certificates.{IsCertificate, IsSpelled, certificate_text}
 use Rattle.solve_line.specs.Verdicts.{IsVerdict}
-use Rattle.solve_line.proofs.VerdictLaws.{verdict-whole-best}
+use Rattle.solve_line.proofs.VerdictLaws.{verdict-best, verdict-infeasible, verdict-whole-best}
 use Rattle.matcher_cli.specs.declared.status.Status.{Status}
 use Rattle.matcher_cli.specs.declared.status.Status.TheVariants as status
 use Rattle.matcher_cli.specs.FolderRules.{Answered, IsFaultTold, rules_in}
@@ -20,35 +22,45 @@ use Rattle.matcher_cli.specs.Solving.{IsSolved, IsSolvedExactly, Solves, SolvesR
 use Rattle.matcher_cli.specs.Verdicts.{IsFault, Written}
 use Rattle.matcher_cli.proofs.ServingLaws.{refused_rules}
 
--- a verdict of the mode whole is an answer whose text is read back
-pub verdict_certificate : (rules : RulesValue) (answer : Answer) → AreRules rules → IsVerdict rules Whole answer → IsSpelled answer → IsCertificate rules answer
-verdict_certificate rules (Lottery winning) are v spelled = record {
+-- a verdict is an answer whose text is read back
+pub verdict_certificate : (rules : RulesValue) (mode : Mode) (answer : Answer) → AreRules rules → IsVerdict rules mode answer → IsSpelled answer → IsCertificate rules answer
+verdict_certificate rules mode (Lottery winning) are v spelled = record {
   rules_kept = are;
-  whole = record { mode = v.certified.of_mode; level = v.certified.suits };
+  suits = rw v.certified.of_mode v.certified.suits;
   matching = v.certified.fitting;
   spelled = spelled;
 }
-verdict_certificate rules (Infeasible blocked) are v spelled = record {
+verdict_certificate rules mode (Infeasible blocked) are v spelled = record {
   rules_kept = are;
-  whole = v.of_mode;
+  suits = tt;
   matching = v.shown.fitting;
   spelled = spelled;
 }
 
+-- in the mode whole no lottery at all is better
+whole_best : (rules : RulesValue) (mode : Mode) (winning : Winning) → AreRules rules → IsVerdict rules mode (Lottery winning) → mode ≡ Whole → Best rules EveryPair winning.lottery
+whole_best rules mode winning are v refl = verdict-whole-best rules (Lottery winning) are v
+
 -- a verdict whose text was written
-pub verdict_solves : (rules : RulesValue) (answer : Answer) (old : List ℕ) (new : Option (List ℕ)) → AreRules rules → IsVerdict rules Whole answer → IsSpelled answer
-    → Written old new (certificate_text rules answer) → SolvesRules (status_of answer) rules old new
-verdict_solves rules (Lottery winning) old new are v spelled written =
-    (winning, record { won = v; best = verdict-whole-best rules (Lottery winning) are v; readable = verdict_certificate rules (Lottery winning) are v spelled }, written)
-verdict_solves rules (Infeasible blocked) old new are v spelled written =
-    (blocked, record { forbidden = v; readable = verdict_certificate rules (Infeasible blocked) are v spelled }, written)
+pub verdict_solves : (rules : RulesValue) (mode : Mode) (answer : Answer) (old : List ℕ) (new : Option (List ℕ)) → AreRules rules → IsVerdict rules mode answer → IsSpelled answer
+    → Written old new (certificate_text rules answer) → SolvesRules (status_of answer) rules mode old new
+verdict_solves rules mode (Lottery winning) old new are v spelled written =
+    (winning, record {
+      won = v;
+      best = verdict-best rules mode (Lottery winning) are v;
+      best_of_all = whole_best rules mode winning are v;
+      readable = verdict_certificate rules mode (Lottery winning) are v spelled;
+    }, written)
+verdict_solves rules mode (Infeasible blocked) old new are v spelled written =
+    (blocked, record { forbidden = v; readable = verdict_certificate rules mode (Infeasible blocked) are v spelled }, written)
 
 -- a lottery comes exactly where some lottery fits
-pub verdict_exact : (rules : RulesValue) (answer : Answer) → AreRules rules → IsVerdict rules Whole answer → IsSolved rules (status_of answer)
-verdict_exact rules (Lottery winning) are v =
-    let best : Best rules EveryPair winning.lottery = verdict-whole-best rules (Lottery winning) are v in
-    record { feasible = λ can. inl refl; infeasible = λ none. absurd (none winning.lottery best.fits) }
-verdict_exact rules (Infeasible blocked) are v = record { feasible = λ can. absurd (v.none can.0 can.1); infeasible = λ none. inl refl }
+pub verdict_exact : (rules : RulesValue) (mode : Mode) (answer : Answer) → AreRules rules → IsVerdict rules mode answer → IsSolved rules (status_of answer)
+verdict_exact rules mode (Lottery winning) are v = record {
+  feasible = λ can. inl refl;
+  infeasible = λ none. absurd ((verdict-infeasible rules mode (Lottery winning) v).1 none);
+}
+verdict_exact rules mode (Infeasible blocked) are v = record { feasible = λ can. absurd (v.none can.0 can.1); infeasible = λ none. inl refl }
 
 pub fault_solved : (rules : RulesValue) (status : Status) → IsFault status → IsSolved rules status
 fault_solved rules status fault = record { feasible = λ can. inr fault; infeasible = λ none. inr fault }
@@ -58,28 +70,28 @@ fault_exact (Ok rules) status fault = fault_solved rules status fault
 fault_exact (Err refused) status fault = inr fault
 
 -- what is served for the rules of files is served for the files
-pub rules_solve : (status : Status) (files : List FileValue) (rules : RulesValue) (old : List ℕ) (new : Option (List ℕ))
-    → rules_in files ≡ Ok rules → SolvesRules status rules old new → Solves status files old new
-rules_solve status.Done files rules old new is solved = (rules, is, solved)
-rules_solve status.Broken files rules old new is solved = solved
-rules_solve status.Infeasible files rules old new is solved = (rules, is, solved)
-rules_solve status.Usage files rules old new is solved = solved
-rules_solve status.ReadFault files rules old new is solved = tt
-rules_solve status.WriteFault files rules old new is solved = rw is solved
-rules_solve status.Refused files rules old new is solved = absurd solved
-rules_solve status.Memory files rules old new is solved = tt
+pub rules_solve : (status : Status) (files : List FileValue) (mode : Mode) (rules : RulesValue) (old : List ℕ) (new : Option (List ℕ))
+    → rules_in files ≡ Ok rules → SolvesRules status rules mode old new → Solves status files mode old new
+rules_solve status.Done files mode rules old new is solved = (rules, is, solved)
+rules_solve status.Broken files mode rules old new is solved = solved
+rules_solve status.Infeasible files mode rules old new is solved = (rules, is, solved)
+rules_solve status.Usage files mode rules old new is solved = solved
+rules_solve status.ReadFault files mode rules old new is solved = tt
+rules_solve status.WriteFault files mode rules old new is solved = rw is solved
+rules_solve status.Refused files mode rules old new is solved = absurd solved
+rules_solve status.Memory files mode rules old new is solved = tt
 
 -- what is told of a fault is what is served
-pub told_solves : (status : Status) (files : List FileValue) (fault : LoadFault) (old : List ℕ) (new : Option (List ℕ))
-    → (let answer : Result Edited LoadFault = Err fault in IsLoadAnswer answer (venue_in files)) → IsFaultTold status fault old new → Solves status files old new
-told_solves status.Done files fault old new answer told = absurd told
-told_solves status.Broken files fault old new answer told = told
-told_solves status.Infeasible files fault old new answer told = absurd told
-told_solves status.Usage files fault old new answer told = told
-told_solves status.ReadFault files fault old new answer told = tt
-told_solves status.WriteFault files fault old new answer told = rw (refused_rules files fault told.0 answer) told.1
-told_solves status.Refused files fault old new answer told = (fault, refused_rules files fault told.0 answer, told.1)
-told_solves status.Memory files fault old new answer told = tt
+pub told_solves : (status : Status) (files : List FileValue) (mode : Mode) (fault : LoadFault) (old : List ℕ) (new : Option (List ℕ))
+    → (let answer : Result Edited LoadFault = Err fault in IsLoadAnswer answer (venue_in files)) → IsFaultTold status fault old new → Solves status files mode old new
+told_solves status.Done files mode fault old new answer told = absurd told
+told_solves status.Broken files mode fault old new answer told = told
+told_solves status.Infeasible files mode fault old new answer told = absurd told
+told_solves status.Usage files mode fault old new answer told = told
+told_solves status.ReadFault files mode fault old new answer told = tt
+told_solves status.WriteFault files mode fault old new answer told = rw (refused_rules files fault told.0 answer) told.1
+told_solves status.Refused files mode fault old new answer told = (fault, refused_rules files fault told.0 answer, told.1)
+told_solves status.Memory files mode fault old new answer told = tt
 
 pub told_exact : (status : Status) (files : List FileValue) (fault : LoadFault) (old : List ℕ) (new : Option (List ℕ))
     → (let answer : Result Edited LoadFault = Err fault in IsLoadAnswer answer (venue_in files)) → IsFaultTold status fault old new → IsSolvedExactly (rules_in files) status

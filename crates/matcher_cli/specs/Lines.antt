@@ -2,6 +2,8 @@
 use Rattle.std.specs.Prelude.{ℕ, ℤ, List, ◌++◌, length, codes}
 use Rattle.match_rules.specs.declared.answer.Answer.{Answer}
 use Rattle.match_rules.specs.declared.answer.Answer.TheVariants.{Lottery, Infeasible}
+use Rattle.match_rules.specs.declared.answer.Level.{Level}
+use Rattle.match_rules.specs.declared.answer.Level.TheVariants.{Unasked, Free, At}
 use Rattle.match_rules.specs.declared.breaks.Break.{Break}
 use Rattle.match_rules.specs.declared.breaks.Break.TheVariants as broken
 use Rattle.text_lines.specs.declared.fault.LineCode.{LineCode}
@@ -26,12 +28,19 @@ two_signed label number other second = (labelled_signed label number ++ labelled
 unfoldable pub one_signed : List ℕ → ℤ → List ℕ
 one_signed label number = labelled_signed label number ++ codes "\n"
 
-unfoldable pub signed_and_number : List ℕ → ℤ → List ℕ → ℕ → List ℕ
-signed_and_number label number other second = (labelled_signed label number ++ labelled other second) ++ codes "\n"
+-- the mode and the threshold of a valid lottery: the level alone tells the mode
+unfoldable pub level_words : Level → List ℕ
+level_words Unasked = codes "valid whole threshold none"
+level_words Free = codes "valid fair threshold free"
+level_words (At score cut) = labelled_signed (codes "valid fair threshold ") score
 
--- the line of a valid answer of the mode whole
+-- the line of a valid lottery
+unfoldable pub lottery_line : Level → ℤ → ℕ → List ℕ
+lottery_line level total pieces = ((level_words level ++ labelled_signed (codes " total ") total) ++ labelled (codes " pieces ") pieces) ++ codes "\n"
+
+-- the line of a valid answer
 abbrev pub valid_line : Answer → List ℕ
-valid_line (Lottery winning) = signed_and_number (codes "valid whole threshold none total ") winning.total (codes " pieces ") (length winning.lottery)
+valid_line (Lottery winning) = lottery_line winning.level winning.total (length winning.lottery)
 valid_line (Infeasible blocked) = two_numbers (codes "valid infeasible need ") blocked.need (codes " room ") blocked.room
 
 -- the line of a broken clause

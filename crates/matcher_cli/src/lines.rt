@@ -1,8 +1,8 @@
 // The lines that the check writes.
 ghost use Rattle.std.specs.Prelude.{◌≡◌, ◌≤◌, length, codes};
-ghost use Rattle.matcher_cli.specs.Lines.{signed_and_number, valid_line, broken_line, one_number, two_numbers, three_numbers, one_signed, two_signed, line_code_word, wrong_line, fault_line};
+ghost use Rattle.matcher_cli.specs.Lines.{level_words, lottery_line, valid_line, broken_line, one_number, two_numbers, three_numbers, one_signed, two_signed, line_code_word, wrong_line, fault_line};
 
-use match_rules::{Answer, Break};
+use match_rules::{Answer, Break, Level};
 use text_lines::{LineBuffer, LineCode, TextFault};
 
 /// A labelled number and a line feed.
@@ -72,19 +72,6 @@ fn two_signed(label: &[u8], number: &i128, other: &[u8], second: &i128) -> LineB
     let mut line = LineBuffer::new();
     line.push_labelled_signed(label, *number);
     line.push_labelled_signed(other, *second);
-    line.push(b"\n");
-    line
-}
-
-#[tactic(auto, unfolding(crate::specs::Lines::signed_and_number))]
-fn signed_and_number(label: &[u8], number: &i128, other: &[u8], second: u64) -> LineBuffer
-    requires label { length label.now ≤ 64 }
-    requires other { length other.now ≤ 64 }
-    ensures { result ≡ signed_and_number label.now number.now other.now second }
-{
-    let mut line = LineBuffer::new();
-    line.push_labelled_signed(label, *number);
-    line.push_labelled(other, second);
     line.push(b"\n");
     line
 }
@@ -209,19 +196,43 @@ fn in_piece(label: &[u8], piece: u32, what: &[u8], place: u32, count: u32) -> Li
     )
 }
 
-/// The line of a valid answer of the mode whole.
+// The mode and the threshold of a valid lottery, of which the level tells both.
+#[tactic(auto, unfolding(crate::specs::Lines::level_words))]
+fn level_words(level: &Level) -> LineBuffer
+    ensures words { result ≡ level_words level.now }
+    ensures few { length result ≤ 64 }
+{
+    match level {
+        Level::Unasked => only_words(b"valid whole threshold none"),
+        Level::Free => only_words(b"valid fair threshold free"),
+        Level::At { score, .. } => {
+            let mut line = LineBuffer::new();
+            line.push_labelled_signed(b"valid fair threshold ", i128::from(*score));
+            line
+        }
+    }
+}
+
+// The line of a valid lottery.
+#[tactic(auto, unfolding(crate::specs::Lines::lottery_line))]
+fn lottery_line(level: &Level, total: &i128, pieces: u64) -> LineBuffer
+    ensures { result ≡ lottery_line level.now total.now pieces }
+{
+    let mut line = level_words(level);
+    line.push_labelled_signed(b" total ", *total);
+    line.push_labelled(b" pieces ", pieces);
+    line.push(b"\n");
+    line
+}
+
+/// The line of a valid answer.
 pub fn valid_line(answer: &Answer) -> LineBuffer
     ensures { result ≡ valid_line answer.now }
 {
     match answer {
         Answer::Lottery(winning) => {
             let pieces = winning.lottery.pieces();
-            signed_and_number(
-                b"valid whole threshold none total ",
-                &winning.total,
-                b" pieces ",
-                pieces.len() as u64,
-            )
+            lottery_line(&winning.level, &winning.total, pieces.len() as u64)
         }
         Answer::Infeasible(blocked) => two_numbers(
             b"valid infeasible need ",

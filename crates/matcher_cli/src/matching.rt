@@ -96,7 +96,8 @@ fn check_text<S: Source, K: Sink>(alloc: Global, source: &mut S, sink: &mut K) -
 /// writes the line of the check into the sink; its memory is that of the certificate, of its longest line, 65,536
 /// bytes, and a counter for each paper, reviewer, group and pair. With the one word `rules` it reads the files of the
 /// folder and writes their rules; its memory is that of the files one at a time, and of what they make. With the words
-/// `solve whole` it writes these rules and a best lottery of them with its evidence, or the cut that shows that none fits.
+/// `solve whole` it writes these rules and a best lottery of them with its evidence, or the cut that shows that none fits; with
+/// the words `solve fair` the same under the greatest threshold of the scores at which some lottery fits.
 pub fn matcher<S: Source, K: Sink, F: Folder>(
     alloc: Global,
     words: &[String],
@@ -125,17 +126,18 @@ pub fn matcher<S: Source, K: Sink, F: Folder>(
     ensures folder_fault { Asks words.now Command.Rules → result ≡ Status.ReadFault → Rose (F.faults folder.old) (F.faults folder.new) }
 
     // The solution, where the folder tells its files: 0 comes exactly where some lottery fits their rules, with the text of
-    // the rules and of a certified lottery, which no lottery under these rules beats; 1 exactly where none fits, with the
-    // text of a cut that shows it; 6 where they make no rules, as for the rules. Where writing failed, a front was written.
-    ensures solves { IsSome (F.files folder.new) → Asks words.now (Command.Solve Mode.Whole) → Solves result (told_files (F.files folder.old)) (told (K.taken sink.old)) (K.taken sink.new) }
-    ensures exact_solves { IsSome (F.files folder.new) → Asks words.now (Command.Solve Mode.Whole) → IsSolvedExactly (rules_in (told_files (F.files folder.old))) result }
-    ensures solved_fault { Asks words.now (Command.Solve Mode.Whole) → result ≡ Status.ReadFault → Rose (F.faults folder.old) (F.faults folder.new) }
+    // the rules and of a certified lottery; in the mode whole no lottery under these rules beats it, in the mode fair none under
+    // their greatest feasible threshold does; 1 exactly where none fits, with the text of a cut that shows it; 6 where they
+    // make no rules, as for the rules. Where writing failed, a front was written.
+    ensures solves { IsSome (F.files folder.new) → (mode : Mode) → Asks words.now (Command.Solve mode) → Solves result (told_files (F.files folder.old)) mode (told (K.taken sink.old)) (K.taken sink.new) }
+    ensures exact_solves { IsSome (F.files folder.new) → (mode : Mode) → Asks words.now (Command.Solve mode) → IsSolvedExactly (rules_in (told_files (F.files folder.old))) result }
+    ensures solved_fault { (mode : Mode) → Asks words.now (Command.Solve mode) → result ≡ Status.ReadFault → Rose (F.faults folder.old) (F.faults folder.new) }
 
     ensures write_fault { result ≡ Status.WriteFault → Rose (K.faults sink.old) (K.faults sink.new) }
 
     // `check` alone reads from the source, and `rules` and `solve` alone from the folder.
     ensures source_kept { ¬ (Asks words.now Command.Check) → source.new ≡ source.old }
-    ensures folder_kept { ¬ (Asks words.now Command.Rules) → ¬ (Asks words.now (Command.Solve Mode.Whole)) → folder.new ≡ folder.old }
+    ensures folder_kept { ¬ (Asks words.now Command.Rules) → ((mode : Mode) → ¬ (Asks words.now (Command.Solve mode))) → folder.new ≡ folder.old }
 
     // Nothing is written where reading failed or memory was wanting.
     ensures quiet { (result ≡ Status.ReadFault) ⊎ (result ≡ Status.Memory) → K.taken sink.new ≡ K.taken sink.old }

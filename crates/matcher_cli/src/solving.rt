@@ -3,7 +3,6 @@ ghost use Rattle.std.specs.Prelude.{◌≡◌, ◌≢◌, ◌⊎◌, ◌≤◌, 
 ghost use Rattle.edge_io.specs.Counts.{HasCause, Rose};
 ghost use Rattle.edge_io.specs.Files.{told_files};
 ghost use Rattle.edge_io.specs.Told.{AddsAll, told};
-ghost use Rattle.match_rules.specs.declared.answer.Mode.TheVariants.{Whole};
 ghost use Rattle.publication.specs.Certificates.{IsCertificate, IsSpelled, certificate_text};
 ghost use Rattle.text_lines.specs.declared.number.TheConstants.{MOST_AMOUNT};
 ghost use Rattle.matcher_cli.specs.FolderRules.{rules_in};
@@ -60,10 +59,9 @@ fn status_of(answer: &Answer) -> Status
     }
 }
 
-// Writes a verdict of the mode whole.
+// Writes a verdict.
 fn write_verdict<K: Sink>(verdict: &Verdict, sink: &mut K) -> Status
-    requires whole { verdict.now.mode ≡ Whole }
-    ensures solves { SolvesRules result verdict.now.rules (told (K.taken sink.old)) (K.taken sink.new) }
+    ensures solves { SolvesRules result verdict.now.rules verdict.now.mode (told (K.taken sink.old)) (K.taken sink.new) }
     ensures cause { result ≡ Status.WriteFault → Rose (K.faults sink.old) (K.faults sink.new) }
     ensures exact { IsSolved verdict.now.rules result }
     ensures written { (result ≢ Status.ReadFault) × (result ≢ Status.Memory) }
@@ -81,8 +79,7 @@ fn write_verdict<K: Sink>(verdict: &Verdict, sink: &mut K) -> Status
 
 // Solves rules, and writes them and what they came to.
 fn solve_rules<K: Sink>(alloc: Global, rules: Rules, mode: Mode, sink: &mut K) -> Status
-    requires whole { mode ≡ Whole }
-    ensures solves { SolvesRules result rules (told (K.taken sink.old)) (K.taken sink.new) }
+    ensures solves { SolvesRules result rules mode (told (K.taken sink.old)) (K.taken sink.new) }
     ensures exact { IsSolved rules result }
     ensures cause { result ≡ Status.WriteFault → Rose (K.faults sink.old) (K.faults sink.new) }
     ensures quiet { (result ≡ Status.ReadFault) ⊎ (result ≡ Status.Memory) → K.taken sink.new ≡ K.taken sink.old }
@@ -93,7 +90,7 @@ fn solve_rules<K: Sink>(alloc: Global, rules: Rules, mode: Mode, sink: &mut K) -
     }
 }
 
-/// Writes the rules of the files of a folder and what they came to in the mode whole, or the line of what is wrong with
+/// Writes the rules of the files of a folder and what they came to in a mode, or the line of what is wrong with
 /// them.
 pub(crate) fn serve_solution<F: Folder, K: Sink>(
     alloc: Global,
@@ -101,8 +98,7 @@ pub(crate) fn serve_solution<F: Folder, K: Sink>(
     folder: &mut F,
     sink: &mut K,
 ) -> Status
-    requires whole { mode ≡ Whole }
-    ensures solves { IsSome (F.files folder.new) → Solves result (told_files (F.files folder.old)) (told (K.taken sink.old)) (K.taken sink.new) }
+    ensures solves { IsSome (F.files folder.new) → Solves result (told_files (F.files folder.old)) mode (told (K.taken sink.old)) (K.taken sink.new) }
     ensures exact { IsSome (F.files folder.new) → IsSolvedExactly (rules_in (told_files (F.files folder.old))) result }
     ensures usage { result ≢ Status.Usage }
     ensures read_fault { result ≡ Status.ReadFault → Rose (F.faults folder.old) (F.faults folder.new) }

@@ -1,5 +1,5 @@
 use Rattle.edge_io.specs.Told.{told}
-use Rattle.match_rules.specs.declared.answer.Mode.TheVariants.{Whole}
+use Rattle.match_rules.specs.declared.answer.Mode.{Mode}
 use Rattle.match_rules.specs.Rules.{RulesValue, AreRules}
 use Rattle.solve_line.specs.Verdicts.{IsVerdict}
 use Rattle.matcher_cli.specs.declared.status.Status.TheVariants.{WriteFault}
@@ -10,16 +10,18 @@ pub returns-in-Ok-clause-solves : goal.returns-in-Ok-clause-solves
 returns-in-Ok-clause-solves g c =
     let all : RulesValue = c.args.verdict.now.rules in
     let are : AreRules all = rw c.rules-rules.ensures at c.pairs-pairs.ensures.kept in
-    let verdict : IsVerdict all Whole c.answer-answer.result.now = rw c.requires.whole at c.answer-answer.ensures.verdict in
-    rw c.status_of.ensures (verdict_solves all c.answer-answer.result.now (told (g.K.Sink.taken c.args.sink.now)) (g.K.Sink.taken c.write_both.new.sink) are verdict c.is_spelled.ensures
+    let mode : Mode = c.args.verdict.now.mode in
+    let verdict : IsVerdict all mode c.answer-answer.result.now = c.answer-answer.ensures.verdict in
+    rw c.status_of.ensures (verdict_solves all mode c.answer-answer.result.now (told (g.K.Sink.taken c.args.sink.now)) (g.K.Sink.taken c.write_both.new.sink) are verdict c.is_spelled.ensures
     (rw c.rules-rules.ensures at c.in-Ok.ensures.taken.bytes))
 
 pub returns-in-Ok-clause-exact : goal.returns-in-Ok-clause-exact
 returns-in-Ok-clause-exact g c =
     let all : RulesValue = c.args.verdict.now.rules in
     let are : AreRules all = rw c.rules-rules.ensures at c.pairs-pairs.ensures.kept in
-    let verdict : IsVerdict all Whole c.answer-answer.result.now = rw c.requires.whole at c.answer-answer.ensures.verdict in
-    rw c.status_of.ensures (verdict_exact all c.answer-answer.result.now are verdict)
+    let mode : Mode = c.args.verdict.now.mode in
+    let verdict : IsVerdict all mode c.answer-answer.result.now = c.answer-answer.ensures.verdict in
+    rw c.status_of.ensures (verdict_exact all mode c.answer-answer.result.now are verdict)
 
 pub returns-in-Err-clause-exact : goal.returns-in-Err-clause-exact
 returns-in-Err-clause-exact g c = fault_solved c.args.verdict.now.rules WriteFault tt
