@@ -1,7 +1,7 @@
 #!/bin/bash
 # Whole jobs, from a folder to the text of a certificate, beside LEMON's NetworkSimplex as a process that reads and solves the
-# network of the same rules, in one run; medians of three. Each certificate is checked by `matcher check` and by the second
-# checker. It wants g++ and Debian's liblemon-dev.
+# network of the same rules, in one run; medians of three. In the mode fair the threshold is LEMON's too, by a binary search with
+# Preflow. Each certificate is checked by `matcher check` and by the second checker. It wants g++ and Debian's liblemon-dev.
 # usage: bench/job.sh PATH-OF-MATCHER [SIZE, 25 if not given]
 set -eu
 matcher=$(realpath "$1")
@@ -54,7 +54,27 @@ def job(name):
     if f"total {-cost} " not in checked:
         sys.exit(f"{name}: LEMON's cost is {cost}")
 
+def fair(name):
+    """The mode fair beside the mode whole, and beside LEMON's search for the threshold."""
+    where = f"{folder}/{name}"
+    rules = subprocess.run([matcher, "rules"], cwd=where, capture_output=True).stdout
+    network = subprocess.run([sys.executable, f"{here}/network_of_rules.py"], input=rules, capture_output=True).stdout
+    whole, _ = seconds([matcher, "solve", "whole"], where)
+    ours, done = seconds([matcher, "solve", "fair"], where)
+    search = [subprocess.run([f"{folder}/lemon", "threshold"], input=network, capture_output=True) for _ in range(3)]
+    lemon = statistics.median(float(one.stderr.split()[0]) for one in search)
+    checked = said([matcher, "check"], done.stdout)
+    second = said([sys.executable, f"{here}/../checker/check.py"], done.stdout)
+    print(f"{name}: solve fair {ours:.3f} s, solve whole {whole:.3f} s; LEMON finds the threshold in {lemon:.3f} s; check says {checked}")
+    print(f"{name}: solve fair to solve whole and LEMON's search, ratio {ours / (whole + lemon):.2f}")
+    if checked != second:
+        sys.exit(f"{name}: the second checker says {second}")
+    if f"threshold {int(search[0].stdout)} " not in checked:
+        sys.exit(f"{name}: LEMON's threshold is {int(search[0].stdout)}")
+
 job("conference")
 job("uneven")
+fair("conference")
+fair("uneven")
 print(f"peak memory {resource.getrusage(resource.RUSAGE_CHILDREN).ru_maxrss} KiB")
 MEASURE

@@ -1,5 +1,5 @@
 #!/bin/bash
-# Solves the conferences of the stored cases and the shipped workshop by `matcher solve whole`, runs `matcher check` and checker/check.py over
+# Solves the conferences of the stored cases and the shipped workshop in both modes, runs `matcher check` and checker/check.py over
 # what that wrote, and says how many agreed that it is valid. Ends with 1 where one did not, and shows the first such certificate.
 # usage: checker/solved.sh PATH-OF-MATCHER
 set -eu
@@ -71,16 +71,16 @@ with tempfile.TemporaryDirectory() as base:
             with open(f"{place}/{file}", "wb") as out:
                 out.write(part)
         places.append((name, place))
-    for name, place in places:
-        solved = subprocess.run([matcher, "solve", "whole"], cwd=place, capture_output=True)
+    for name, place, mode in [(name, place, mode) for name, place in places for mode in ("whole", "fair")]:
+        solved = subprocess.run([matcher, "solve", mode], cwd=place, capture_output=True)
         if solved.returncode not in (0, 1):
-            print(f"{name}: status {solved.returncode}, no certificate")
+            print(f"{name}, {mode}: status {solved.returncode}, no certificate")
             continue
         first = said([matcher, "check"], solved.stdout)
         second = said([sys.executable, "checker/check.py"], solved.stdout)
         if first != second or first[0] != 0:
             print(solved.stdout.decode())
-            sys.exit(f"{name}: matcher says {first}, check.py {second}")
+            sys.exit(f"{name}, {mode}: matcher says {first}, check.py {second}")
         agreed += 1
 print(f"{agreed} solved, and both checkers say of each that it is valid")
 SOLVED
