@@ -1,7 +1,9 @@
 -- A text is refused exactly for its first fault.
-use Rattle.std.proofs.Common.{◌≡◌, ℕ, List, Option, None, Some, Result, Ok, Err, refl, sym, ap, ◌∙◌}
+use Rattle.std.proofs.Common.{◌≡◌, ℕ, List, [], Option, None, Some, IsSome, Result, Ok, Err, refl, sym, ap, ◌∙◌}
+use Rattle.std.specs.Result.{IsErrOf}
+use Rattle.edge_io.specs.Told.{told}
 use Rattle.text_lines.specs.FirstFault.{Due, HasFault}
-use Rattle.text_lines.specs.Reading.{Fails}
+use Rattle.text_lines.specs.Reading.{Fails, FaultHasCause}
 use Rattle.text_lines.specs.declared.fault.ReadError.{ReadError}
 use Rattle.text_lines.specs.declared.fault.ReadError.TheVariants as errors
 use Rattle.text_lines.specs.declared.fault.TextFault.{TextFault}
@@ -9,6 +11,7 @@ use Rattle.text_lines.specs.declared.fault.TextFault.TheVariants as faults
 use Rattle.text_lines.proofs.FaultLaws.{fault_in}
 use Rattle.text_lines.proofs.OneFault.{one_fault}
 use Rattle.publication.specs.declared.refusal.ReadRefusal.{ReadRefusal}
+use Rattle.publication.specs.declared.refusal.ReadRefusal.TheVariants as refusals
 use Rattle.publication.specs.Refusals.{IsRefused, ReadAs, RefusedFor, refusal_of, refusal_of_fault}
 
 fault_refused : (due : Due) (bytes : List ℕ) (fault : TextFault) → HasFault due bytes (Some fault) → IsRefused due bytes (refusal_of_fault fault)
@@ -45,3 +48,12 @@ pub not_refused : {A B : Type 0} (view : A → B) (x : B) (e : ReadError) (read 
 not_refused view x errors.Memory read fails is = tt
 not_refused view x errors.ReadFault read fails is = tt
 not_refused view x (errors.Text fault) read fails is = absurd (cc (fails, is))
+
+-- where a text is refused for its early end, nothing is left of it
+pub ended_there : {A B : Type 0} (before now : ℕ) (left : Option (List ℕ)) (e : ReadError) → FaultHasCause {X = A} before now left (Err e) → IsSome left
+    → IsErrOf {T = B} (Err (refusal_of e)) refusals.Truncated → told left ≡ []
+ended_there before now left errors.Memory cause tells is = absurd (cc)
+ended_there before now left errors.ReadFault cause tells is = absurd (cc)
+ended_there before now left (errors.Text faults.Truncated) cause tells is = cause.ended tells refl
+ended_there before now left (errors.Text faults.Trailing) cause tells is = absurd (cc)
+ended_there before now left (errors.Text (faults.BadLine number code)) cause tells is = absurd (cc)

@@ -45,12 +45,3 @@ ReadAs view value (Err refusals.ReadFault) = Unit {0}
 ReadAs view value (Err refusals.Truncated) = ⊥
 ReadAs view value (Err (refusals.BadLine number code)) = ⊥
 ReadAs view value (Err refusals.Trailing) = ⊥
-
--- a text that was read, or that ended too early
-abbrev pub IsAtEnd : {A : Type 0} → Result A ReadRefusal → Type 0
-IsAtEnd (Ok x) = Unit {0}
-IsAtEnd (Err refusals.Memory) = ⊥
-IsAtEnd (Err refusals.ReadFault) = ⊥
-IsAtEnd (Err refusals.Truncated) = Unit {0}
-IsAtEnd (Err (refusals.BadLine number code)) = ⊥
-IsAtEnd (Err refusals.Trailing) = ⊥

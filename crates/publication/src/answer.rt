@@ -26,7 +26,7 @@ pub fn read_answer<S: Source>(
     ensures whole { IfOk result IsWholeAnswer }
     ensures fits { IfOk result (IsAnswerFor sizes) }
     ensures untold { TellsNoMore (S.left source.old) (S.left source.new) }
-    ensures cause { FaultHasCause (S.faults source.old) (S.faults source.new) result }
+    ensures cause { FaultHasCause (S.faults source.old) (S.faults source.new) (S.left source.new) result }
 {
     match read_line(alloc, lines, source, &mut KindLine {}, &[])? {
         AnswerKind::Lottery => {

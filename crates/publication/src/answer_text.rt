@@ -26,7 +26,7 @@ struct Worth {
 fn read_head<S: Source>(alloc: Global, lines: &mut Lines, source: &mut S) -> Result<(), ReadError>
     ensures reads { IsSome (S.left source.new) → Gives (λ item. item) result (cursor lines.new (S.left source.new)) (answer_head_at (cursor lines.old (S.left source.old))) }
     ensures untold { TellsNoMore (S.left source.old) (S.left source.new) }
-    ensures cause { FaultHasCause (S.faults source.old) (S.faults source.new) result }
+    ensures cause { FaultHasCause (S.faults source.old) (S.faults source.new) (S.left source.new) result }
 {
     read_words(alloc, lines, source, "mode whole")?;
     read_words(alloc, lines, source, "threshold none")
@@ -43,7 +43,7 @@ fn read_price_list<S: Source>(
     ensures reads { IsSome (S.left source.new) → Gives (λ prices. prices) result (cursor lines.new (S.left source.new)) (price_list_at word.now count (cursor lines.old (S.left source.old))) }
     ensures fits { IfOk result (ArePrices count) }
     ensures untold { TellsNoMore (S.left source.old) (S.left source.new) }
-    ensures cause { FaultHasCause (S.faults source.old) (S.faults source.new) result }
+    ensures cause { FaultHasCause (S.faults source.old) (S.faults source.new) (S.left source.new) result }
 {
     let prices = read_section(alloc, lines, source, word, count, count, &mut PriceLine {})?;
     Ok(PriceList::from_vec(prices))
@@ -59,7 +59,7 @@ fn read_prices<S: Source>(
     ensures reads { IsSome (S.left source.new) → Gives (λ prices. prices) result (cursor lines.new (S.left source.new)) (prices_at sizes (cursor lines.old (S.left source.old))) }
     ensures fits { IfOk result (ArePricesFor sizes) }
     ensures untold { TellsNoMore (S.left source.old) (S.left source.new) }
-    ensures cause { FaultHasCause (S.faults source.old) (S.faults source.new) result }
+    ensures cause { FaultHasCause (S.faults source.old) (S.faults source.new) (S.left source.new) result }
 {
     let papers = read_price_list(alloc, lines, source, "paper-prices", sizes.papers)?;
     let groups = read_price_list(alloc, lines, source, "group-prices", sizes.groups)?;
@@ -82,7 +82,7 @@ fn read_shares<S: Source>(
     ensures reads { IsSome (S.left source.new) → Gives (λ shares. shares) result (cursor lines.new (S.left source.new)) (shares_at sizes (cursor lines.old (S.left source.old))) }
     ensures fits { IfOk result (AreSharesFor sizes) }
     ensures untold { TellsNoMore (S.left source.old) (S.left source.new) }
-    ensures cause { FaultHasCause (S.faults source.old) (S.faults source.new) result }
+    ensures cause { FaultHasCause (S.faults source.old) (S.faults source.new) (S.left source.new) result }
 {
     let shares = read_section(
         alloc,
@@ -108,7 +108,7 @@ fn read_pieces<S: Source>(
     ensures reads { IsSome (S.left source.new) → Gives (λ lottery. lottery) result (cursor lines.new (S.left source.new)) (pieces_at sizes (cursor lines.old (S.left source.old))) }
     ensures fits { IfOk result (ArePiecesFor sizes) }
     ensures untold { TellsNoMore (S.left source.old) (S.left source.new) }
-    ensures cause { FaultHasCause (S.faults source.old) (S.faults source.new) result }
+    ensures cause { FaultHasCause (S.faults source.old) (S.faults source.new) (S.left source.new) result }
 {
     let mut form = PieceLine { pairs: sizes.pairs };
     let pieces = read_section(alloc, lines, source, "pieces", 0, MOST_TICKETS, &mut form)?;
@@ -128,7 +128,7 @@ fn read_worth<S: Source>(
     ensures total { IfOk result (λ worth. IsWithin most_total worth.total) }
     ensures prices { IfOk result (λ worth. ArePricesFor sizes worth.prices) }
     ensures untold { TellsNoMore (S.left source.old) (S.left source.new) }
-    ensures cause { FaultHasCause (S.faults source.old) (S.faults source.new) result }
+    ensures cause { FaultHasCause (S.faults source.old) (S.faults source.new) (S.left source.new) result }
 {
     read_head(alloc, lines, source)?;
     let total = read_line(alloc, lines, source, &mut TotalLine {}, &[])?;
@@ -149,7 +149,7 @@ pub fn read_lottery<S: Source>(
     ensures whole { IfOk result IsWhole }
     ensures fits { IfOk result (IsLotteryFor sizes) }
     ensures untold { TellsNoMore (S.left source.old) (S.left source.new) }
-    ensures cause { FaultHasCause (S.faults source.old) (S.faults source.new) result }
+    ensures cause { FaultHasCause (S.faults source.old) (S.faults source.new) (S.left source.new) result }
 {
     let worth = read_worth(alloc, lines, source, sizes)?;
     let shares = read_shares(alloc, lines, source, sizes)?;

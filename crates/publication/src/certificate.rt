@@ -37,7 +37,7 @@ fn read_parts<S: Source>(
     ensures matching { IfOk result (λ certificate. IsCertificate certificate.rules certificate.answer) }
     ensures end { IsSome (S.left source.new) → OnOk result (told (S.left source.new) ≡ []) }
     ensures untold { TellsNoMore (S.left source.old) (S.left source.new) }
-    ensures cause { FaultHasCause (S.faults source.old) (S.faults source.new) result }
+    ensures cause { FaultHasCause (S.faults source.old) (S.faults source.new) (S.left source.new) result }
 {
     let rules = read_rules(alloc, &mut lines, source)?;
     let answer = read_answer(alloc, &mut lines, source, Sizes::of(&rules))?;
@@ -61,9 +61,10 @@ pub fn read_certificate<S: Source>(
     ensures end { IsSome (S.left source.new) → OnOk result (told (S.left source.new) ≡ []) }
     ensures only { IsSome (S.left source.new) → (rules : RulesValue) (answer : Answer) → IsCertificate rules answer → told (S.left source.old) ≡ certificate_text rules answer → ReadAs parts_of (rules, answer) result }
 
-    // Other bytes are refused, exactly for their first fault.
+    // Other bytes are refused, exactly for their first fault; where they end too early, all were taken from the source.
     ensures refused { IsSome (S.left source.new) → IfErr result (IsRefused certificate_due (told (S.left source.old))) }
     ensures exact { IsSome (S.left source.new) → (fault : TextFault) → HasFault certificate_due (told (S.left source.old)) (Some fault) → RefusedFor fault result }
+    ensures truncated { IsSome (S.left source.new) → IsErrOf result ReadRefusal.Truncated → told (S.left source.new) ≡ [] }
 
     // No certificate is a front of another one.
     ensures apart { (rules others : RulesValue) (answer other : Answer) (more : List ℕ) → IsCertificate rules answer → IsCertificate others other → certificate_text rules answer ≡ certificate_text others other ++ more → more ≡ [] }

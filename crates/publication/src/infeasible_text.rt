@@ -39,7 +39,7 @@ fn read_marks<S: Source>(
     ensures reads { IsSome (S.left source.new) → Gives (λ places. places) result (cursor lines.new (S.left source.new)) (due (marks_of word.now count) (cursor lines.old (S.left source.old))) }
     ensures fits { IfOk result (AreMarks count) }
     ensures untold { TellsNoMore (S.left source.old) (S.left source.new) }
-    ensures cause { FaultHasCause (S.faults source.old) (S.faults source.new) result }
+    ensures cause { FaultHasCause (S.faults source.old) (S.faults source.new) (S.left source.new) result }
 {
     read_line(alloc, lines, source, &mut MarksLine { word, count }, &[])
 }
@@ -54,7 +54,7 @@ fn read_marked<S: Source>(
     ensures reads { IsSome (S.left source.new) → Gives (λ marked. (marked.papers, marked.groups, marked.reviewers)) result (cursor lines.new (S.left source.new)) (marked_at sizes (cursor lines.old (S.left source.old))) }
     ensures fits { IfOk result (λ marked. AreMarked sizes marked.papers marked.groups marked.reviewers) }
     ensures untold { TellsNoMore (S.left source.old) (S.left source.new) }
-    ensures cause { FaultHasCause (S.faults source.old) (S.faults source.new) result }
+    ensures cause { FaultHasCause (S.faults source.old) (S.faults source.new) (S.left source.new) result }
 {
     let papers = read_marks(alloc, lines, source, "marked-papers", sizes.papers)?;
     let groups = read_marks(alloc, lines, source, "marked-groups", sizes.groups)?;
@@ -76,7 +76,7 @@ fn read_cut<S: Source>(
     ensures reads { IsSome (S.left source.new) → Gives (λ cut. cut) result (cursor lines.new (S.left source.new)) (cut_at sizes (cursor lines.old (S.left source.old))) }
     ensures fits { IfOk result (λ cut. AreMarked sizes cut.papers cut.groups cut.reviewers) }
     ensures untold { TellsNoMore (S.left source.old) (S.left source.new) }
-    ensures cause { FaultHasCause (S.faults source.old) (S.faults source.new) result }
+    ensures cause { FaultHasCause (S.faults source.old) (S.faults source.new) (S.left source.new) result }
 {
     let side = read_line(alloc, lines, source, &mut SideLine {}, &[])?;
     let marked = read_marked(alloc, lines, source, sizes)?;
@@ -92,7 +92,7 @@ fn read_cut<S: Source>(
 fn read_sums<S: Source>(alloc: Global, lines: &mut Lines, source: &mut S) -> Result<Sums, ReadError>
     ensures reads { IsSome (S.left source.new) → Gives (λ sums. (sums.need, sums.room)) result (cursor lines.new (S.left source.new)) (sums_at (cursor lines.old (S.left source.old))) }
     ensures untold { TellsNoMore (S.left source.old) (S.left source.new) }
-    ensures cause { FaultHasCause (S.faults source.old) (S.faults source.new) result }
+    ensures cause { FaultHasCause (S.faults source.old) (S.faults source.new) (S.left source.new) result }
 {
     let need = read_amount(alloc, lines, source, "need")?;
     let room = read_amount(alloc, lines, source, "room")?;
@@ -112,7 +112,7 @@ pub fn read_infeasible<S: Source>(
     ensures whole { IfOk result (λ blocked. blocked.mode ≡ modes.Whole) }
     ensures fits { IfOk result (IsBlockedFor sizes) }
     ensures untold { TellsNoMore (S.left source.old) (S.left source.new) }
-    ensures cause { FaultHasCause (S.faults source.old) (S.faults source.new) result }
+    ensures cause { FaultHasCause (S.faults source.old) (S.faults source.new) (S.left source.new) result }
 {
     read_words(alloc, lines, source, "mode whole")?;
     let cut = read_cut(alloc, lines, source, sizes)?;

@@ -31,7 +31,7 @@ fn read_head<S: Source>(alloc: Global, lines: &mut Lines, source: &mut S) -> Res
     ensures reads { IsSome (S.left source.new) → Gives (λ limit. limit) result (cursor lines.new (S.left source.new)) (head_at (cursor lines.old (S.left source.old))) }
     ensures limit { IfOk result IsLimit }
     ensures untold { TellsNoMore (S.left source.old) (S.left source.new) }
-    ensures cause { FaultHasCause (S.faults source.old) (S.faults source.new) result }
+    ensures cause { FaultHasCause (S.faults source.old) (S.faults source.new) (S.left source.new) result }
 {
     read_words(alloc, lines, source, "rules 1")?;
     read_words(alloc, lines, source, "tickets 10000")?;
@@ -48,7 +48,7 @@ fn read_lists<S: Source>(
     ensures reads { IsSome (S.left source.new) → Gives (λ lists. (lists.papers.items, lists.reviewers.items, lists.pairs.items)) result (cursor lines.new (S.left source.new)) (lists_at (cursor lines.old (S.left source.old))) }
     ensures lists { IfOk result (λ lists. AreLists lists.papers.items lists.reviewers.items lists.pairs.items) }
     ensures untold { TellsNoMore (S.left source.old) (S.left source.new) }
-    ensures cause { FaultHasCause (S.faults source.old) (S.faults source.new) result }
+    ensures cause { FaultHasCause (S.faults source.old) (S.faults source.new) (S.left source.new) result }
 {
     let papers = read_section(
         alloc,
@@ -90,7 +90,7 @@ pub fn read_rules<S: Source>(
     ensures reads { IsSome (S.left source.new) → Gives (λ rules. rules) result (cursor lines.new (S.left source.new)) (rules_at (cursor lines.old (S.left source.old))) }
     ensures kept { IfOk result AreRules }
     ensures untold { TellsNoMore (S.left source.old) (S.left source.new) }
-    ensures cause { FaultHasCause (S.faults source.old) (S.faults source.new) result }
+    ensures cause { FaultHasCause (S.faults source.old) (S.faults source.new) (S.left source.new) result }
 {
     let limit = read_head(alloc, lines, source)?;
     let lists = read_lists(alloc, lines, source)?;

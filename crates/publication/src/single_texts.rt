@@ -32,7 +32,7 @@ fn rules_and_end<S: Source>(
     ensures kept { IfOk result AreRules }
     ensures end { IsSome (S.left source.new) → OnOk result (told (S.left source.new) ≡ []) }
     ensures untold { TellsNoMore (S.left source.old) (S.left source.new) }
-    ensures cause { FaultHasCause (S.faults source.old) (S.faults source.new) result }
+    ensures cause { FaultHasCause (S.faults source.old) (S.faults source.new) (S.left source.new) result }
 {
     let rules = rules_reading::read_rules(alloc, &mut lines, source)?;
     lines.finish(source)?;
@@ -49,9 +49,10 @@ pub fn read_rules<S: Source>(alloc: Global, source: &mut S) -> Result<Rules, Rea
     ensures end { IsSome (S.left source.new) → OnOk result (told (S.left source.new) ≡ []) }
     ensures only { IsSome (S.left source.new) → (rules : RulesValue) → AreRules rules → told (S.left source.old) ≡ rules_text rules → ReadAs (λ (r : RulesValue). r) rules result }
 
-    // Other bytes are refused, exactly for their first fault.
+    // Other bytes are refused, exactly for their first fault; where they end too early, all were taken from the source.
     ensures refused { IsSome (S.left source.new) → IfErr result (IsRefused rules_due (told (S.left source.old))) }
     ensures exact { IsSome (S.left source.new) → (fault : TextFault) → HasFault rules_due (told (S.left source.old)) (Some fault) → RefusedFor fault result }
+    ensures truncated { IsSome (S.left source.new) → IsErrOf result ReadRefusal.Truncated → told (S.left source.new) ≡ [] }
 
     // No text of rules is a front of another one.
     ensures apart { (rules others : RulesValue) (more : List ℕ) → AreRules rules → AreRules others → rules_text rules ≡ rules_text others ++ more → more ≡ [] }
@@ -89,7 +90,7 @@ fn answer_and_end(
 ) -> Result<Answer, ReadError>
     ensures reads { MatchResult result (λ answer. answer_whole_at (sizes_of rules.now) (cursor lines (Some source.old.left)) ≡ Ok answer) (λ e. Fails e (answer_whole_at (sizes_of rules.now) (cursor lines (Some source.old.left)))) }
     ensures matching { IfOk result (IsCertificate rules.now) }
-    ensures cause { FaultHasCause 0 0 result }
+    ensures cause { FaultHasCause 0 0 (Some source.new.left) result }
 {
     let answer = answer::read_answer(alloc, &mut lines, source, kept_sizes(rules))?;
     lines.finish(source)?;

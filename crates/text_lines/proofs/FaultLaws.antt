@@ -1,22 +1,19 @@
 -- The first fault of a text is the one that reading line by line meets.
-use Rattle.std.proofs.Common.{◌≡◌, ℕ, zero, suc, ◌+◌, ◌-◌, ◌^◌, ◌<◌, ◌≤◌, ◌⊎◌, Bool, true, false, eqb, ltb, leb, min, List, [], ◌∷◌, ◌++◌, length, take, drop, Option, None, Some, Result, Ok, Err, inl, inr, refl, sym, ap, subst, ◌∙◌, append_assoc, arith}
-use Rattle.std.specs.List.{position_or_len, before_first, after_first}
+use Rattle.std.proofs.Common.{◌≡◌, ℕ, zero, suc, ◌+◌, ◌-◌, ◌^◌, ◌<◌, ◌≤◌, Bool, true, false, eqb, ltb, min, List, [], ◌∷◌, ◌++◌, length, drop, Option, None, Some, Result, Ok, Err, inl, inr, refl, sym, ap, subst, ◌∙◌, append_assoc, arith}
+use Rattle.std.specs.List.{before_first, after_first}
 use Rattle.std.specs.Str.{is_utf8}
 use Rattle.std.proofs.lemmas.Bool.{cases_eq, eqb-true, eqb-false, ltb-true, ltb-false, le-leb, lt-leb}
-use Rattle.std.proofs.lemmas.List.{append-nil, drop_at, length-append, length-take, nil_from_length, take-append-drop}
-use Rattle.std.proofs.Math.Seq.{take-append-add}
+use Rattle.std.proofs.lemmas.List.{length-take, nil_from_length, take-append-drop}
 use Rattle.text_lines.specs.declared.lines.TheConstants.{LONGEST_LINE}
 use Rattle.text_lines.specs.declared.fault.LineCode.{LineCode}
 use Rattle.text_lines.specs.declared.fault.LineCode.TheVariants.{TooLong, NotUtf8}
 use Rattle.text_lines.specs.declared.fault.TextFault.{TextFault}
 use Rattle.text_lines.specs.declared.fault.TextFault.TheVariants.{Truncated, Trailing, BadLine}
-use Rattle.text_lines.specs.FirstFault.{Due, HasFault, HasFeed, IsFaultAt, IsPlain, IsRight, AllRight, first_line, line_number, line_then, lines_then, section_then, no_line}
-use Rattle.text_lines.specs.LineTests.{LineTests, Tests, code_of, first_of, unless}
-use Rattle.text_lines.specs.Forms.{number_after, section_at}
-use Rattle.text_lines.specs.Numbers.{value}
+use Rattle.text_lines.specs.FirstFault.{Due, HasFault, HasFeed, IsFaultAt, IsPlain, IsRight, AllRight, first_line, line_number, line_then, lines_then, no_line}
+use Rattle.text_lines.specs.LineTests.{LineTests, code_of, first_of, unless}
 use Rattle.text_lines.specs.Reading.{◌>>=◌, Cursor, line_at, is_feed, following, due, as_text, at_line, items_at, end_at}
 use Rattle.text_lines.specs.Texts.{line_of, lines_of}
-use Rattle.text_lines.proofs.LineLaws.{feed_at, feed_at-le, feed_ahead, feed_stops}
+use Rattle.text_lines.proofs.LineLaws.{feed_at, feed_at-le, feed_stops}
 use Rattle.text_lines.proofs.TextLaws.{line_takes}
 
 pub by_test : {P : Type 0} (b : Bool) → (b ≡ true → P) → (b ≡ false → P) → P

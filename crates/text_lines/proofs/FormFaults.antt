@@ -1,11 +1,11 @@
 -- Lines of fixed words, lines of a word and a number, and sections go along with what is due.
-use Rattle.std.proofs.Common.{◌≡◌, ℕ, suc, Bool, true, false, eqb, leb, List, [], ◌∷◌, ◌++◌, length, Option, None, Some, Result, Ok, Err, refl, sym, ap, subst, ◌∙◌, arith}
+use Rattle.std.proofs.Common.{◌≡◌, ℕ, suc, Bool, true, false, eqb, leb, List, [], ◌∷◌, Option, None, Result, Ok, refl, arith}
 use Rattle.std.specs.Prelude.{◌&&◌}
 use Rattle.std.specs.Str.{bytes_eq}
 use Rattle.std.proofs.lemmas.Bool.{ne_eqb}
 use Rattle.text_lines.specs.declared.fault.LineCode.{LineCode}
 use Rattle.text_lines.specs.declared.fault.LineCode.TheVariants.{Form, Number, Range}
-use Rattle.text_lines.specs.FirstFault.{Due, words_then, count_then, lines_then, section_then}
+use Rattle.text_lines.specs.FirstFault.{words_then, count_then, lines_then, section_then}
 use Rattle.text_lines.specs.Fields.{fields, two_of}
 use Rattle.text_lines.specs.Forms.{fixed, in_form, needs, number_from, number_after, number_of_fields, section_at}
 use Rattle.text_lines.specs.LineTests.{LineTests, first_of, count_tests, count_parts, count_of, words_tests, part, unless}

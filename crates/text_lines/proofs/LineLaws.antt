@@ -3,7 +3,7 @@ use Rattle.std.proofs.Common.{◌≡◌, ℕ, ◌+◌, ◌-◌, ◌<◌, ◌≤�
 use Rattle.std.specs.Prelude.{slice_range}
 use Rattle.std.specs.List.{position_or_len}
 use Rattle.std.proofs.lemmas.Bool.{eq-eqb, ne_eqb, ltb-true, ltb-false, le-ltb, lt-ltb, cases_eq}
-use Rattle.std.proofs.lemmas.List.{append-nil, drop-take, drop-drop, drop_at, drop_all, take_all, drop-append-le, take-append-le, length-append, length-take}
+use Rattle.std.proofs.lemmas.List.{append-nil, drop-take, drop-drop, drop_at, drop_all, take_all, drop-append-le, take-append-le, length-append, length-take, nil_from_length}
 use Rattle.std.proofs.lemmas.List.Sums.{prefix_len-le-length}
 use Rattle.std.proofs.lemmas.List.Folds.{prefix_len-append}
 use Rattle.std.proofs.Math.Seq.{take-append-add}
@@ -82,6 +82,10 @@ pub truncated_at : (number : ℕ) (line bytes : List ℕ) → IsPlain line → l
 truncated_at number line bytes plain fits all =
     let whole : line ≡ bytes = sym (append-nil line) ∙ all in
     rw (← whole) (line_truncated number line plain fits)
+
+-- nothing is left where nothing stands in all
+pub none_left : (unread left bytes : List ℕ) → unread ++ left ≡ bytes → bytes ≡ [] → left ≡ []
+none_left unread left bytes all none = nil_from_length left (omega (arith, ap length (all ∙ none), length-append unread left))
 
 pub piece_fails : (lines : LinesValue) (e : ReadError) (number : ℕ) (bytes left : List ℕ) → IsPieceError lines e → IsPlain lines.line → lines.number ≡ number → lines.line ++ (lines.unread ++ left) ≡ bytes
     → Fails e (line_at (record { number = number; bytes = bytes }))

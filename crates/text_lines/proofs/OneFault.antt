@@ -1,9 +1,8 @@
 -- A text has one first fault, or none.
-use Rattle.std.proofs.Common.{◌≡◌, ℕ, ◌+◌, ◌<◌, ◌≤◌, ◌⊎◌, false, true, eqb, List, [], ◌∷◌, ◌++◌, length, take, drop, Option, None, Some, inl, inr, refl, sym, ap, subst, ◌∙◌, append_assoc, arith}
+use Rattle.std.proofs.Common.{◌≡◌, ℕ, ◌+◌, ◌<◌, ◌≤◌, ◌⊎◌, List, [], ◌∷◌, ◌++◌, length, take, Option, None, Some, inl, inr, refl, sym, ap, ◌∙◌, append_assoc, arith}
 use Rattle.std.specs.List.{after_first}
 use Rattle.std.proofs.lemmas.List.{append-nil, drop_at, length-append, length-take}
 use Rattle.std.proofs.Math.Seq.{take-append-add}
-use Rattle.text_lines.specs.declared.fault.LineCode.{LineCode}
 use Rattle.text_lines.specs.declared.fault.TextFault.{TextFault}
 use Rattle.text_lines.specs.declared.fault.TextFault.TheVariants.{Truncated, Trailing, BadLine}
 use Rattle.text_lines.specs.declared.lines.TheConstants.{LONGEST_LINE}
@@ -11,7 +10,7 @@ use Rattle.text_lines.specs.FirstFault.{Due, HasFault, HasFeed, IsFaultAt, IsPla
 use Rattle.text_lines.specs.LineTests.{LineTests, code_of}
 use Rattle.text_lines.specs.Reading.{is_feed}
 use Rattle.text_lines.specs.Texts.{line_of, lines_of}
-use Rattle.text_lines.proofs.LineLaws.{feed_at, feed_at-le, feed_ahead}
+use Rattle.text_lines.proofs.LineLaws.{feed_at, feed_ahead}
 
 -- ---- the first line of bytes that begin with one
 

@@ -1,13 +1,12 @@
 -- The first fault of a text, by what is due behind the lines before it.
 use Rattle.std.specs.Prelude.{◌≡◌, ℕ, zero, suc, ◌+◌, ◌-◌, ◌^◌, ◌<◌, ◌≤◌, ◌⊎◌, min, List, [], ◌∷◌, ◌++◌, length, Option, None, Some}
 use Rattle.std.specs.List.{position_or_len, before_first}
-use Rattle.text_lines.specs.declared.fault.LineCode.{LineCode}
 use Rattle.text_lines.specs.declared.fault.TextFault.{TextFault}
 use Rattle.text_lines.specs.declared.fault.TextFault.TheVariants.{Truncated, Trailing, BadLine}
 use Rattle.text_lines.specs.declared.lines.TheConstants.{LONGEST_LINE}
 use Rattle.text_lines.specs.LineTests.{LineTests, code_of, words_tests, count_tests, count_of}
 use Rattle.text_lines.specs.Reading.{is_feed}
-use Rattle.text_lines.specs.Texts.{line_of, lines_of}
+use Rattle.text_lines.specs.Texts.{lines_of}
 
 -- what is due behind some lines: a line with these tests, or none where the text is at its end
 abbrev pub Due : Type 0

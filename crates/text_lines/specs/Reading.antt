@@ -1,5 +1,5 @@
 -- Reading lines: where a reader stands, the line that is due there, and the first fault that is met.
-use Rattle.std.specs.Prelude.{◌≡◌, ℕ, zero, suc, ◌+◌, ◌-◌, ◌^◌, ◌<◌, ◌≤◌, min, Bool, ◌==◌, nat_lt, List, [], ◌∷◌, ◌++◌, length, Option, Result, Ok, Err, IsErrOf, if◌then◌else◌}
+use Rattle.std.specs.Prelude.{◌≡◌, ℕ, zero, suc, ◌+◌, ◌-◌, ◌^◌, ◌<◌, ◌≤◌, min, Bool, ◌==◌, nat_lt, List, [], ◌∷◌, ◌++◌, length, Option, IsSome, Result, Ok, Err, IsErrOf, if◌then◌else◌}
 use Rattle.std.specs.List.{position_or_len, before_first, after_first}
 use Rattle.std.specs.Str.{is_utf8}
 use Rattle.edge_io.specs.Counts.{Rose}
@@ -82,10 +82,12 @@ abbrev pub Gives : {X Y : Type 0} → (X → Y) → Result X ReadError → Curso
 Gives view (Ok x) now read = read ≡ Ok (view x, now)
 Gives view (Err e) now read = Fails e read
 
--- the count of faults never falls, and a read fault comes only where it rose
-pub record FaultHasCause {X : Type 0} (before now : ℕ) (result : Result X ReadError) : Type 0 where
+-- the count of faults never falls, a read fault comes only where it rose, and a text is cut off only where the source
+-- has nothing left
+pub record FaultHasCause {X : Type 0} (before now : ℕ) (left : Option (List ℕ)) (result : Result X ReadError) : Type 0 where
   pub later : before ≤ now
   pub failed : IsErrOf result read_errors.ReadFault → Rose before now
+  pub ended : IsSome left → IsErrOf result (read_errors.Text Truncated) → told left ≡ []
 
 -- what clauses see of the reader of lines: bytes that it has taken from the source and not yet read as lines, the
 -- line that it read last, and the number of the line that is due

@@ -46,7 +46,7 @@ pub fn read_line<S: Source, F: LineForm>(
     ensures ready { IfOk result (λ item. F.ready form.new (before.now ++ item ∷ [])) }
     ensures same { F.reads form.new ≡ F.reads form.old }
     ensures untold { TellsNoMore (S.left source.old) (S.left source.new) }
-    ensures cause { FaultHasCause (S.faults source.old) (S.faults source.new) result }
+    ensures cause { FaultHasCause (S.faults source.old) (S.faults source.new) (S.left source.new) result }
 {
     let number = lines.number();
     lines.next(source)?;
@@ -73,7 +73,7 @@ pub fn read_items<S: Source, F: LineForm>(
     ensures count { IfOk result (λ items. length items.items ≡ count) }
     ensures from { IfOk result (λ items. AllFrom (F.reads form.old) [] items.items) }
     ensures untold { TellsNoMore (S.left source.old) (S.left source.new) }
-    ensures cause { FaultHasCause (S.faults source.old) (S.faults source.new) result }
+    ensures cause { FaultHasCause (S.faults source.old) (S.faults source.new) (S.left source.new) result }
 {
     let mut items = Vec::new(alloc);
     for _ in 0..count {

@@ -72,7 +72,7 @@ impl Lines {
     pub fn next<S: Source>(&mut self, source: &mut S) -> Result<(), ReadError>
         ensures reads { IsSome (S.left source.new) → Gives (λ _. self.new.line) result (cursor self.new (S.left source.new)) (line_at (cursor self.old (S.left source.old))) }
         ensures untold { TellsNoMore (S.left source.old) (S.left source.new) }
-        ensures cause { FaultHasCause (S.faults source.old) (S.faults source.new) result }
+        ensures cause { FaultHasCause (S.faults source.old) (S.faults source.new) (S.left source.new) result }
     {
         self.line.clear();
         loop {
@@ -90,7 +90,7 @@ impl Lines {
         ensures reads { IsSome (S.left source.new) → MatchResult result (λ _. end_at (cursor self (S.left source.old)) ≡ Ok tt) (λ e. Fails e (end_at (cursor self (S.left source.old)))) }
         ensures end { IsSome (S.left source.new) → OnOk result (told (S.left source.new) ≡ []) }
         ensures untold { TellsNoMore (S.left source.old) (S.left source.new) }
-        ensures cause { FaultHasCause (S.faults source.old) (S.faults source.new) result }
+        ensures cause { FaultHasCause (S.faults source.old) (S.faults source.new) (S.left source.new) result }
     {
         if self.more(source)? {
             return Err(ReadError::Text(TextFault::Trailing));
@@ -106,7 +106,7 @@ impl Lines {
         ensures taken { IsSome (S.left source.new) → told (S.left source.old) ≡ self.new.unread ++ told (S.left source.new) }
         ensures end { IsSome (S.left source.new) → IfOk result (λ some. some ≡ nat_lt 0 (length (told (S.left source.old)))) }
         ensures untold { TellsNoMore (S.left source.old) (S.left source.new) }
-        ensures cause { FaultHasCause (S.faults source.old) (S.faults source.new) result }
+        ensures cause { FaultHasCause (S.faults source.old) (S.faults source.new) (S.left source.new) result }
         ensures fault { IfErr result (λ e. e ≡ ReadError.ReadFault) }
     {
         match source.read(&mut self.chunk) {
@@ -126,7 +126,7 @@ impl Lines {
         ensures all { IsSome (S.left source.new) → self.new.unread ++ told (S.left source.new) ≡ self.old.unread ++ told (S.left source.old) }
         ensures end { IsSome (S.left source.new) → IfOk result (λ some. some ≡ false → self.old.unread ++ told (S.left source.old) ≡ []) }
         ensures untold { TellsNoMore (S.left source.old) (S.left source.new) }
-        ensures cause { FaultHasCause (S.faults source.old) (S.faults source.new) result }
+        ensures cause { FaultHasCause (S.faults source.old) (S.faults source.new) (S.left source.new) result }
         ensures fault { IfErr result (λ e. e ≡ ReadError.ReadFault) }
     {
         if self.has_unread() {

@@ -137,7 +137,7 @@ pub fn read_words<S: Source>(
 ) -> Result<(), ReadError>
     ensures reads { IsSome (S.left source.new) → Gives (λ item. item) result (cursor lines.new (S.left source.new)) (due (fixed words.now) (cursor lines.old (S.left source.old))) }
     ensures untold { TellsNoMore (S.left source.old) (S.left source.new) }
-    ensures cause { FaultHasCause (S.faults source.old) (S.faults source.new) result }
+    ensures cause { FaultHasCause (S.faults source.old) (S.faults source.new) (S.left source.new) result }
 {
     read_line(alloc, lines, source, &mut FixedLine { words }, &[])
 }
@@ -155,7 +155,7 @@ pub fn read_count<S: Source>(
     ensures low { IfOk result (λ number. least ≤ number) }
     ensures high { IfOk result (λ number. number ≤ most) }
     ensures untold { TellsNoMore (S.left source.old) (S.left source.new) }
-    ensures cause { FaultHasCause (S.faults source.old) (S.faults source.new) result }
+    ensures cause { FaultHasCause (S.faults source.old) (S.faults source.new) (S.left source.new) result }
 {
     read_line(
         alloc,
@@ -175,7 +175,7 @@ pub fn read_amount<S: Source>(
 ) -> Result<u64, ReadError>
     ensures reads { IsSome (S.left source.new) → Gives (λ item. item) result (cursor lines.new (S.left source.new)) (due (number_after word.now 0 MOST_AMOUNT) (cursor lines.old (S.left source.old))) }
     ensures untold { TellsNoMore (S.left source.old) (S.left source.new) }
-    ensures cause { FaultHasCause (S.faults source.old) (S.faults source.new) result }
+    ensures cause { FaultHasCause (S.faults source.old) (S.faults source.new) (S.left source.new) result }
 {
     read_line(alloc, lines, source, &mut AmountLine { word }, &[])
 }
@@ -196,7 +196,7 @@ pub fn read_section<S: Source, F: LineForm>(
     ensures high { IfOk result (λ items. length items.items ≤ most) }
     ensures from { IfOk result (λ items. AllFrom (F.reads form.old) [] items.items) }
     ensures untold { TellsNoMore (S.left source.old) (S.left source.new) }
-    ensures cause { FaultHasCause (S.faults source.old) (S.faults source.new) result }
+    ensures cause { FaultHasCause (S.faults source.old) (S.faults source.new) (S.left source.new) result }
 {
     let count = read_count(alloc, lines, source, word, least, most)?;
     read_items(alloc, lines, source, form, count)

@@ -6,7 +6,7 @@ use Rattle.publication.specs.Certificates.{parts_of}
 use Rattle.publication.specs.DueLines.{certificate_due}
 use Rattle.publication.proofs.CertificateLaws.{text_of_read, read_of_text, same_read, certificates_apart}
 use Rattle.publication.proofs.FaultsFound.{certificate_found}
-use Rattle.publication.proofs.RefusalLaws.{error_refused, error_for, read_whole, not_refused}
+use Rattle.publication.proofs.RefusalLaws.{ended_there, error_refused, error_for, read_whole, not_refused}
 use Rattle.publication.proofs.certificate.read_certificate.Goals as goal
 
 pub returns-in-Ok-read_parts-clause-found : goal.returns-in-Ok-read_parts-clause-found
@@ -48,3 +48,6 @@ returns-in-Err-clause-exact g c = λ tells fault has.
 
 pub returns-in-Err-clause-apart : goal.returns-in-Err-clause-apart
 returns-in-Err-clause-apart g c = certificates_apart
+
+pub returns-in-Err-clause-truncated : goal.returns-in-Err-clause-truncated
+returns-in-Err-clause-truncated g c = λ tells. rw c.refusal_of.ensures (ended_there _ _ _ c.in-Err.error c.in-Err.ensures.cause tells)

@@ -1,6 +1,11 @@
 use Rattle.std.proofs.lemmas.Result.{err_from_is_err_and}
-use Rattle.publication.proofs.CutReading.{third_marks_fail, marked_read}
+use Rattle.publication.proofs.CutReading.{second_marks_fail, third_marks_fail, marked_read}
 use Rattle.publication.proofs.infeasible_text.read_marked.Goals as goal
+
+pub returns-in_err-groups-clause-reads : goal.returns-in_err-groups-clause-reads
+returns-in_err-groups-clause-reads g c =
+    let p = err_from_is_err_and c.from_residual-in_err-groups.result c.from_residual-in_err-groups.ensures.1 in
+    rw (p.1, p.2) (λ tells. second_marks_fail c.args.sizes _ _ c.in_ok-papers.papers c.in_err-groups.field-0.0 (c.in_ok-papers.ensures.reads (c.in_err-groups.ensures.untold tells)) (c.in_err-groups.ensures.reads tells))
 
 pub returns-in_err-reviewers-clause-reads : goal.returns-in_err-reviewers-clause-reads
 returns-in_err-reviewers-clause-reads g c =

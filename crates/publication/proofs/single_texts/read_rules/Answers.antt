@@ -6,7 +6,7 @@ use Rattle.publication.specs.DueLines.{rules_due}
 use Rattle.publication.specs.WholeTexts.{rules_whole_at}
 use Rattle.publication.proofs.CertificateLaws.{first_bytes, rules_apart, rules_of_text, rules_whole_takes, same_read}
 use Rattle.publication.proofs.FaultsFound.{rules_found}
-use Rattle.publication.proofs.RefusalLaws.{error_refused, error_for, read_whole, not_refused}
+use Rattle.publication.proofs.RefusalLaws.{ended_there, error_refused, error_for, read_whole, not_refused}
 use Rattle.publication.proofs.single_texts.read_rules.Goals as goal
 
 pub returns-in-Ok-rules_and_end-clause-found : goal.returns-in-Ok-rules_and_end-clause-found
@@ -47,3 +47,6 @@ returns-in-Err-clause-exact g c = λ tells fault has.
 
 pub returns-in-Err-clause-apart : goal.returns-in-Err-clause-apart
 returns-in-Err-clause-apart g c = rules_apart
+
+pub returns-in-Err-clause-truncated : goal.returns-in-Err-clause-truncated
+returns-in-Err-clause-truncated g c = λ tells. rw c.refusal_of.ensures (ended_there _ _ _ c.in-Err.error c.in-Err.ensures.cause tells)

@@ -38,7 +38,7 @@ returns-clause-reads g c = λ tells.
 pub returns-in_err-item-clause-cause : goal.returns-in_err-item-clause-cause
 returns-in_err-item-clause-cause g c =
     let p = err_from_is_err_and c.from_residual.result c.from_residual.ensures.1 in
-    rw (p.1, p.2) (cause_goes_on _ _ _ _ c.loop.invariant.later c.in_err-item.ensures.cause)
+    rw (p.1, p.2) (cause_goes_on _ _ _ _ _ c.loop.invariant.later c.in_err-item.ensures.cause)
 
 pub returns-in_err-item-clause-untold : goal.returns-in_err-item-clause-untold
 returns-in_err-item-clause-untold g c = λ tells. c.loop.invariant.untold (c.in_err-item.ensures.untold tells)
@@ -46,10 +46,10 @@ returns-in_err-item-clause-untold g c = λ tells. c.loop.invariant.untold (c.in_
 pub returns-in_err-push-clause-cause : goal.returns-in_err-push-clause-cause
 returns-in_err-push-clause-cause g c =
     let p = err_from_is_err_and c.from_residual-in_err-push.result c.from_residual-in_err-push.ensures.1 in
-    rw (p.1, p.2) (record { later = omega (arith, c.in_ok-item.ensures.cause.later, c.loop.invariant.later); failed = λ fault. absurd (cc) })
+    rw (p.1, p.2) (record { later = omega (arith, c.in_ok-item.ensures.cause.later, c.loop.invariant.later); failed = λ fault. absurd (cc); ended = λ tells fault. absurd (cc) })
 
 pub returns-in_err-push-clause-untold : goal.returns-in_err-push-clause-untold
 returns-in_err-push-clause-untold g c = λ tells. c.loop.invariant.untold (c.in_ok-item.ensures.untold tells)
 
 pub returns-clause-cause : goal.returns-clause-cause
-returns-clause-cause g c = record { later = c.loop.invariant.later; failed = λ fault. absurd (cc) }
+returns-clause-cause g c = record { later = c.loop.invariant.later; failed = λ fault. absurd (cc); ended = λ tells fault. absurd (cc) }

@@ -35,7 +35,7 @@ returns-in-Err-Code-clause-reads g c = λ tells.
 pub returns-in_err-next-clause-cause : goal.returns-in_err-next-clause-cause
 returns-in_err-next-clause-cause g c =
     let p = err_from_is_err_and c.from_residual.result c.from_residual.ensures.1 in
-    rw (p.1, p.2) (same_cause _ _ _ c.in_err-next.ensures.cause)
+    rw (p.1, p.2) (same_cause _ _ _ _ c.in_err-next.ensures.cause)
 
 pub returns-in_err-next-clause-untold : goal.returns-in_err-next-clause-untold
 returns-in_err-next-clause-untold g c = c.next.ensures.untold

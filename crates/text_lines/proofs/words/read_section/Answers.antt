@@ -21,7 +21,7 @@ returns-clause-reads g c = λ tells.
 pub returns-in_err-count-clause-cause : goal.returns-in_err-count-clause-cause
 returns-in_err-count-clause-cause g c =
     let p = err_from_is_err_and c.from_residual.result c.from_residual.ensures.1 in
-    rw (p.1, p.2) (same_cause _ _ _ c.in_err-count.ensures.cause)
+    rw (p.1, p.2) (same_cause _ _ _ _ c.in_err-count.ensures.cause)
 
 pub returns-clause-cause : goal.returns-clause-cause
-returns-clause-cause g c = cause_since _ _ _ _ c.in_ok-count.ensures.cause.later c.read_items.ensures.cause
+returns-clause-cause g c = cause_since _ _ _ _ _ c.in_ok-count.ensures.cause.later c.read_items.ensures.cause

@@ -19,7 +19,7 @@ returns-clause-reads g c = λ tells. end_ok (cursor c.args.self (g.S.Source.left
 pub returns-in_err-more-clause-cause : goal.returns-in_err-more-clause-cause
 returns-in_err-more-clause-cause g c =
     let p = err_from_is_err_and c.from_residual.result c.from_residual.ensures.1 in
-    rw (p.1, p.2) (same_cause _ _ _ c.in_err-more.ensures.cause)
+    rw (p.1, p.2) (same_cause _ _ _ _ c.in_err-more.ensures.cause)
 
 pub returns-in_err-more-clause-untold : goal.returns-in_err-more-clause-untold
 returns-in_err-more-clause-untold g c = c.more.ensures.untold

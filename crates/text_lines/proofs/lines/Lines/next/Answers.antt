@@ -3,7 +3,7 @@ use Rattle.std.proofs.lemmas.Result.{err_from_is_err_and}
 use Rattle.edge_io.specs.Told.{told}
 use Rattle.text_lines.specs.Reading.{LinesValue}
 use Rattle.text_lines.proofs.CauseLaws.{cause_goes_on}
-use Rattle.text_lines.proofs.LineLaws.{IsPlain, TakesPiece, truncated_at, piece_fails, piece_ends, piece_stays_plain, piece_keeps}
+use Rattle.text_lines.proofs.LineLaws.{IsPlain, TakesPiece, truncated_at, piece_fails, piece_ends, piece_stays_plain, piece_keeps, none_left}
 use Rattle.text_lines.proofs.lines.Lines.next.Goals as goal
 
 -- more bytes change neither the line nor what is still to be read
@@ -46,10 +46,17 @@ loop-self-preserved g c =
 pub returns-in_err-more-clause-cause : goal.returns-in_err-more-clause-cause
 returns-in_err-more-clause-cause g c =
     let p = err_from_is_err_and c.from_residual.result c.from_residual.ensures.1 in
-    rw (p.1, p.2) (cause_goes_on _ _ _ _ c.loop-self.invariant.later c.in_err-more.ensures.cause)
+    rw (p.1, p.2) (cause_goes_on _ _ _ _ _ c.loop-self.invariant.later c.in_err-more.ensures.cause)
 
 pub returns-in_err-more-clause-untold : goal.returns-in_err-more-clause-untold
 returns-in_err-more-clause-untold g c = λ tells. c.loop-self.invariant.untold (c.more.ensures.untold tells)
 
 pub returns-in_err-take_piece-clause-untold : goal.returns-in_err-take_piece-clause-untold
 returns-in_err-take_piece-clause-untold g c = λ tells. c.loop-self.invariant.untold (c.more.ensures.untold tells)
+
+pub returns-then-not-branch-clause-cause : goal.returns-then-not-branch-clause-cause
+returns-then-not-branch-clause-cause g c = record {
+  later = omega (arith, c.more.ensures.cause.later, c.loop-self.invariant.later);
+  failed = λ fault. absurd (cc);
+  ended = λ tells ended. none_left c.more.new.self.unread _ _ (c.more.ensures.all tells) (c.in_ok-more.ensures.end tells c.if-not-branch.true);
+}
