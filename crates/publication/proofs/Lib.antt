@@ -19,6 +19,8 @@ pub mod LotteryLaws
 pub mod CutReading
 pub mod InfeasibleLaws
 pub mod CertificateLaws
+pub mod LockedAlone
+pub mod LevelLaws
 pub mod CheckLaws
 pub mod WriteLaws
 pub mod WaitingLaws

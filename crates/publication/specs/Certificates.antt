@@ -9,7 +9,7 @@ use Rattle.match_rules.specs.declared.answer.Prices.{Prices}
 use Rattle.match_rules.specs.declared.answer.Winning.{Winning}
 use Rattle.match_rules.specs.declared.lottery.Piece.{Piece}
 use Rattle.match_rules.specs.declared.rules.TheConstants.{RULES_TICKETS}
-use Rattle.match_rules.specs.Answers.{AnswerMatches, AreMarks, ArePrices, IsWithin, most_total}
+use Rattle.match_rules.specs.Answers.{AnswerMatches, AreMarks, ArePrices, IsWithin, SuitsMode, most_total}
 use Rattle.match_rules.specs.Pieces.{ArePieces}
 use Rattle.match_rules.specs.Rules.{RulesValue, AreRules}
 use Rattle.text_lines.specs.declared.number.TheConstants.{MOST_AMOUNT}
@@ -61,6 +61,11 @@ pub record IsBlockedFor (sizes : Sizes) (blocked : Blocked) : Type 0 where
 abbrev pub IsAnswerFor : Sizes → Answer → Type 0
 IsAnswerFor sizes (Lottery winning) = IsLotteryFor sizes winning
 IsAnswerFor sizes (Infeasible blocked) = IsBlockedFor sizes blocked
+
+-- the level of a lottery is unasked exactly in the mode whole
+abbrev pub SuitsItsMode : Answer → Type 0
+SuitsItsMode (Lottery winning) = SuitsMode winning.mode winning.level
+SuitsItsMode (Infeasible blocked) = Unit {0}
 
 -- an answer of the mode whole
 abbrev pub IsWholeAnswer : Answer → Type 0

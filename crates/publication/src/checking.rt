@@ -1,25 +1,25 @@
 // The first clause of the check that an answer breaks.
 ghost use Rattle.std.specs.Prelude.{◌≡◌, ◌↔◌, ◌==◌, ◌&&◌, List, IsNone};
 ghost use Rattle.match_rules.specs.declared.answer.Blocked.{Blocked};
-ghost use Rattle.match_rules.specs.declared.answer.Mode.TheVariants.{Whole};
 ghost use Rattle.match_rules.specs.declared.answer.Sieve.TheVariants.{All as EveryPair};
 ghost use Rattle.match_rules.specs.declared.answer.Winning.{Winning};
 ghost use Rattle.match_rules.specs.declared.lottery.Piece.{Piece};
-ghost use Rattle.match_rules.specs.Answers.{AnswerMatches, Certified, CutMatches, IsBlocked, SharesMatch, WinningMatches};
+ghost use Rattle.match_rules.specs.Answers.{AnswerMatches, Certified, CutMatches, IsBlocked, SharesMatch, SuitsMode, WinningMatches};
 ghost use Rattle.match_rules.specs.Assignments.{Best, Fits};
 ghost use Rattle.match_rules.specs.Breaks.{unless};
 ghost use Rattle.match_rules.specs.Sound.{sizes_of};
 ghost use Rattle.match_rules.specs.Thresholds.{sieve_of};
-ghost use Rattle.publication.specs.Certificates.{IsWhole};
-ghost use Rattle.publication.specs.Checks.{total_break, bound_break, worth_break, lottery_break, cut_break, check_break_of, Holds, IsFullyChecked};
+ghost use Rattle.publication.specs.Certificates.{SuitsItsMode};
+ghost use Rattle.publication.specs.Checks.{total_break, bound_break, worth_break, evidence_break, lottery_break, cut_break, check_break_of, Holds};
 
+use crate::threshold_checking::broken_threshold;
 use dual_check::{Excess, bound, excess};
 use match_rules::{
     Answer, Blocked, Break, Level, Rules, Scratch, Sieve, Winning, first_break, shares_score,
 };
 
 // A break where a test doesn't hold.
-fn unless(holds: bool, broken: Break) -> Option<Break>
+pub(crate) fn unless(holds: bool, broken: Break) -> Option<Break>
     ensures { result ≡ unless holds broken }
 {
     if holds { None } else { Some(broken) }
@@ -67,6 +67,17 @@ fn broken_worth(rules: &Rules, winning: &Winning) -> Option<Break>
     }
 }
 
+// The clauses of the threshold, and 11 and 12.
+fn broken_evidence(rules: &Rules, winning: &Winning) -> Option<Break>
+    requires { WinningMatches rules.now winning.now }
+    ensures { result ≡ evidence_break rules.now winning.now }
+{
+    match broken_threshold(rules, &winning.level, &winning.shares) {
+        Some(broken) => Some(broken),
+        None => broken_worth(rules, winning),
+    }
+}
+
 // The first broken clause of a lottery.
 #[tactic(auto, unfolding(crate::specs::Checks::lottery_break))]
 fn broken_lottery(rules: &Rules, winning: &Winning, scratch: &mut Scratch) -> Option<Break>
@@ -77,19 +88,19 @@ fn broken_lottery(rules: &Rules, winning: &Winning, scratch: &mut Scratch) -> Op
 {
     match first_break(rules, &winning.shares, &winning.lottery, scratch) {
         Some(broken) => Some(broken),
-        None => broken_worth(rules, winning),
+        None => broken_evidence(rules, winning),
     }
 }
 
-// The same, with what it says of a lottery of the mode whole.
+// The same, with what it says of a lottery.
 fn check_lottery(rules: &Rules, winning: &Winning, scratch: &mut Scratch) -> Option<Break>
     requires matching { WinningMatches rules.now winning.now }
     requires scratch { scratch.old ≡ sizes_of rules.now }
     ensures exact { result ≡ lottery_break rules.now winning.now }
     ensures kept { scratch.new ≡ scratch.old }
-    ensures certified { IsNone result → IsWhole winning.now → Certified rules.now Whole winning.now }
-    ensures only { Certified rules.now Whole winning.now → IsNone result }
-    ensures best { IsNone result → IsWhole winning.now → Best rules.now EveryPair winning.now.lottery }
+    ensures certified { IsNone result → SuitsMode winning.now.mode winning.now.level → Certified rules.now winning.now.mode winning.now }
+    ensures only { Certified rules.now winning.now.mode winning.now → IsNone result }
+    ensures best { IsNone result → Best rules.now (sieve_of winning.now.level) winning.now.lottery }
 {
     // The rules and the pieces keep their conditions.
     let _pairs = rules.pairs();
@@ -134,9 +145,7 @@ fn check_cut(rules: &Rules, blocked: &Blocked) -> Option<Break>
 }
 
 /// The first broken clause of the check, and in it the least piece and then the least place. None comes exactly where an
-/// answer of the mode whole is valid. The clauses 8 to 10, of the threshold of the mode fair, aren't tested yet: of a
-/// lottery of that mode None says only that it breaks none of the others. The scratch has to be made for the rules.
-/// Takes no memory.
+/// answer whose level is unasked exactly in the mode whole is valid. The scratch has to be made for the rules. Takes no memory.
 pub fn check(rules: &Rules, answer: &Answer, scratch: &mut Scratch) -> Option<Break>
     requires matching { AnswerMatches rules.now answer.now }
     requires scratch { scratch.old ≡ sizes_of rules.now }
@@ -144,11 +153,11 @@ pub fn check(rules: &Rules, answer: &Answer, scratch: &mut Scratch) -> Option<Br
     ensures kept { scratch.new ≡ scratch.old }
 
     // No clause is broken exactly where the answer is valid.
-    ensures holds { IsNone result → IsFullyChecked answer.now → Holds rules.now answer.now }
+    ensures holds { IsNone result → SuitsItsMode answer.now → Holds rules.now answer.now }
     ensures only { Holds rules.now answer.now → IsNone result }
 
-    // Then no lottery of any size has more for each ticket, or none of any size fits.
-    ensures best { IsNone result → (winning : Winning) → answer.now ≡ Answer.Lottery winning → IsWhole winning → Best rules.now EveryPair winning.lottery }
+    // Then no lottery of any size under the sieve of its level has more for each ticket, or none of any size fits.
+    ensures best { IsNone result → (winning : Winning) → answer.now ≡ Answer.Lottery winning → Best rules.now (sieve_of winning.level) winning.lottery }
     ensures none { IsNone result → (blocked : Blocked) → answer.now ≡ Answer.Infeasible blocked → (lottery : List Piece) → ¬ (Fits rules.now EveryPair lottery) }
 {
     match answer {
