@@ -1,5 +1,5 @@
 -- A text is refused exactly for its first fault.
-use Rattle.std.proofs.Common.{◌≡◌, ℕ, List, [], Option, None, Some, IsSome, Result, Ok, Err, refl, sym, ap, ◌∙◌}
+use Rattle.std.proofs.Common.{◌≡◌, ℕ, List, [], Option, None, Some, IsSome, Result, Ok, Err, refl}
 use Rattle.std.specs.Result.{IsErrOf}
 use Rattle.edge_io.specs.Told.{told}
 use Rattle.text_lines.specs.FirstFault.{Due, HasFault}
@@ -10,7 +10,6 @@ use Rattle.text_lines.specs.declared.fault.TextFault.{TextFault}
 use Rattle.text_lines.specs.declared.fault.TextFault.TheVariants as faults
 use Rattle.text_lines.proofs.FaultLaws.{fault_in}
 use Rattle.text_lines.proofs.OneFault.{one_fault}
-use Rattle.publication.specs.declared.refusal.ReadRefusal.{ReadRefusal}
 use Rattle.publication.specs.declared.refusal.ReadRefusal.TheVariants as refusals
 use Rattle.publication.specs.Refusals.{IsRefused, ReadAs, RefusedFor, refusal_of, refusal_of_fault}
 

@@ -1,5 +1,5 @@
 -- Why a text is refused: its first fault, want of memory, or a source that failed.
-use Rattle.std.specs.Prelude.{◌≡◌, ℕ, List, Option, None, Some, Result, Ok, Err}
+use Rattle.std.specs.Prelude.{◌≡◌, ℕ, List, Some, Result, Ok, Err}
 use Rattle.text_lines.specs.FirstFault.{Due, HasFault}
 use Rattle.text_lines.specs.declared.fault.ReadError.{ReadError}
 use Rattle.text_lines.specs.declared.fault.ReadError.TheVariants as errors

@@ -1,4 +1,4 @@
-use Rattle.std.proofs.Common.{Ok, ap, ◌∙◌, sym}
+use Rattle.std.proofs.Common.{◌∙◌, sym}
 use Rattle.edge_io.specs.Told.{told}
 use Rattle.match_rules.specs.Rules.{RulesValue}
 use Rattle.text_lines.specs.Reading.{cursor}
