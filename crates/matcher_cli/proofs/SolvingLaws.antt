@@ -24,13 +24,13 @@ use Rattle.matcher_cli.proofs.ServingLaws.{refused_rules}
 pub verdict_certificate : (rules : RulesValue) (answer : Answer) → AreRules rules → IsVerdict rules Whole answer → IsSpelled answer → IsCertificate rules answer
 verdict_certificate rules (Lottery winning) are v spelled = record {
   rules_kept = are;
-  whole = record { mode = v.certified.of_mode; level = v.certified.suits };
+  suits = rw v.certified.of_mode v.certified.suits;
   matching = v.certified.fitting;
   spelled = spelled;
 }
 verdict_certificate rules (Infeasible blocked) are v spelled = record {
   rules_kept = are;
-  whole = v.of_mode;
+  suits = tt;
   matching = v.shown.fitting;
   spelled = spelled;
 }
