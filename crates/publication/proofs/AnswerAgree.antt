@@ -19,6 +19,13 @@ use Rattle.text_lines.proofs.FaultLaws.{Agrees, IsAgreed, by_test}
 use Rattle.text_lines.proofs.FormFaults.{agrees_needs, many_parts}
 use Rattle.publication.specs.AnswerForms.{kind_of, price_of, share_of, total_of, total_in, piece_of, piece_in, piece_with, ascends, in_range, stands_behind}
 use Rattle.publication.specs.AnswerTests.{kind_tests, kind_from, side_tests, total_tests, total_parts, price_tests, price_parts, share_tests, share_parts, piece_tests, piece_parts, piece_from, marks_tests, marks_parts}
+use Rattle.match_rules.specs.declared.answer.Mode.{Mode}
+use Rattle.match_rules.specs.declared.answer.Mode.TheVariants.{Whole, Fair}
+use Rattle.match_rules.specs.Rules.{most_score}
+use Rattle.text_lines.specs.declared.fault.LineCode.{LineCode}
+use Rattle.publication.specs.declared.asked_forms.Asked.TheVariants as asked
+use Rattle.publication.specs.AnswerTests.{mode_tests, mode_from, has_score, threshold_tests, threshold_from}
+use Rattle.publication.specs.AskedForms.{mode_of, score_in, score_of, threshold_of}
 use Rattle.publication.specs.CutForms.{side_of, marks_of, marks_in, marks_from, marks_with}
 
 -- ---- one word or another
@@ -35,6 +42,29 @@ pub sides_agree : Agrees side_of side_tests side_from
 unfolding side_of
 sides_agree line =
     by_test (bytes_eq line (codes "cut into")) (λ e. rw e (refl, refl)) (λ e. by_test (bytes_eq line (codes "cut out-of")) (λ f. rw (e, f) (refl, refl)) (λ f. rw (e, f) refl))
+
+-- ---- the mode and the threshold
+
+pub modes_agree : Agrees mode_of mode_tests mode_from
+unfolding mode_of
+modes_agree line =
+    by_test (bytes_eq line (codes "mode whole")) (λ e. rw e (refl, refl)) (λ e. by_test (bytes_eq line (codes "mode fair")) (λ f. rw (e, f) (refl, refl)) (λ f. rw (e, f) refl))
+
+-- a line of a score, or of another form
+abbrev form_alone : Bool → Option LineCode
+form_alone test = unless test Form None
+
+scores_agree : (parts : List (List ℕ)) → IsAgreed (in_form (two_of parts) >>= λ p. score_in p) (form_alone (has_score parts)) (asked.At (signed_value (part 1 parts)))
+scores_agree [] = refl
+scores_agree (a ∷ []) = refl
+scores_agree (a ∷ b ∷ []) =
+    by_test (bytes_eq a (codes "threshold")) (λ w. by_test (is_canonical_signed b) (λ s. by_test (leb (size b) most_score) (λ r. rw (w, s, r) (refl, refl)) (λ r. rw (w, s, r) refl)) (λ s. rw (w, s) refl)) (λ w. rw w refl)
+scores_agree (a ∷ b ∷ c ∷ parts) = rw many_parts refl
+
+pub thresholds_agree : (mode : Mode) → Agrees (threshold_of mode) (threshold_tests mode) (threshold_from mode)
+unfolding threshold_of score_of
+thresholds_agree Whole line = by_test (bytes_eq line (codes "threshold none")) (λ e. rw e (refl, refl)) (λ e. rw e refl)
+thresholds_agree Fair line = by_test (bytes_eq line (codes "threshold free")) (λ e. rw e (refl, refl)) (λ e. rw e (scores_agree (fields line)))
 
 -- ---- numbers
 

@@ -4,6 +4,8 @@ use Rattle.std.proofs.lemmas.List.{append-nil, nil_from_length}
 use Rattle.std.proofs.lemmas.Bool.{eqb-true}
 use Rattle.match_rules.specs.declared.answer.Answer.{Answer}
 use Rattle.match_rules.specs.declared.answer.Answer.TheVariants.{Lottery, Infeasible}
+use Rattle.match_rules.specs.declared.answer.Level.{Level}
+use Rattle.match_rules.specs.declared.answer.Level.TheVariants.{Unasked, Free, At}
 use Rattle.match_rules.specs.Answers.{AnswerMatches, LevelMatches, SharesMatch}
 use Rattle.match_rules.specs.Rules.{RulesValue, AreRules}
 use Rattle.match_rules.proofs.GroupLaws.{group_count_few}
@@ -20,14 +22,15 @@ use Rattle.match_rules.specs.declared.sizes.Sizes.{Sizes}
 use Rattle.publication.specs.AnswerForms.{kind_of}
 use Rattle.publication.specs.AnswerReading.{answer_at, answer_behind, certificate_at, lottery_at}
 use Rattle.match_rules.specs.Sound.{sizes_of}
-use Rattle.publication.specs.Certificates.{AreSharesFor, IsAnswerFor, IsCertificate, IsSpelled, IsWholeAnswer, answer_text, certificate_text}
+use Rattle.publication.specs.Certificates.{AreSharesFor, IsAnswerFor, IsCertificate, IsSpelled, LevelFits, SuitsItsMode, answer_text, certificate_text}
 use Rattle.publication.specs.InfeasibleReading.{infeasible_at}
 use Rattle.publication.specs.RulesReading.{rules_at}
 use Rattle.publication.specs.RulesText.{rules_text}
 use Rattle.publication.specs.WholeTexts.{answer_whole_at, rules_whole_at}
 use Rattle.publication.proofs.CutLaws.{kind_line, kind_spells}
+use Rattle.publication.proofs.CutParts.{AreSmall}
 use Rattle.publication.proofs.InfeasibleLaws.{infeasible_takes, infeasible_again}
-use Rattle.publication.proofs.LotteryLaws.{AreSmall, lottery_takes, lottery_again}
+use Rattle.publication.proofs.LotteryLaws.{lottery_takes, lottery_again}
 use Rattle.publication.proofs.RulesLaws.{rules_takes, rules_again}
 
 sizes_small : (rules : RulesValue) → AreRules rules → AreSmall (sizes_of rules)
@@ -46,30 +49,42 @@ shares_from rules shares kept are = subst (λ (tickets : ℕ). (length shares �
 shares_for : (rules : RulesValue) (shares : List ℕ) → AreRules rules → SharesMatch rules shares → AreSharesFor (sizes_of rules) shares
 shares_for rules shares kept matching = subst (λ (tickets : ℕ). (length shares ≡ length rules.pairs) × All (λ share. share ≤ tickets) shares) kept.tickets matching
 
-matches_from : (rules : RulesValue) (answer : Answer) → AreRules rules → IsWholeAnswer answer → IsAnswerFor (sizes_of rules) answer → AnswerMatches rules answer
-matches_from rules (Lottery winning) kept whole are = record {
-  level = subst (λ l. LevelMatches rules l) (sym whole.level) tt;
+level_from : (rules : RulesValue) (level : Level) → LevelFits (sizes_of rules) level → LevelMatches rules level
+level_from rules Unasked fits = tt
+level_from rules Free fits = tt
+level_from rules (At score cut) fits = (fits.0, record { papers = fits.1.of_papers; of_groups = fits.1.of_groups; reviewers = fits.1.of_reviewers })
+
+level_for : (rules : RulesValue) (level : Level) → LevelMatches rules level → LevelFits (sizes_of rules) level
+level_for rules Unasked matching = tt
+level_for rules Free matching = tt
+level_for rules (At score cut) matching =
+    (matching.0, record { of_papers = matching.1.papers; of_groups = matching.1.of_groups; of_reviewers = matching.1.reviewers })
+
+matches_from : (rules : RulesValue) (answer : Answer) → AreRules rules → IsAnswerFor (sizes_of rules) answer → AnswerMatches rules answer
+matches_from rules (Lottery winning) kept are = record {
+  level = level_from rules winning.level are.level;
   in_all = are.total;
   prices = record { papers = are.prices.papers; of_groups = are.prices.of_groups; reviewers = are.prices.reviewers };
   shares = shares_from rules winning.shares kept are.shares;
   pieces = are.pieces.1;
 }
-matches_from rules (Infeasible blocked) kept whole are = record { papers = are.marked.of_papers; of_groups = are.marked.of_groups; reviewers = are.marked.of_reviewers }
+matches_from rules (Infeasible blocked) kept are = record { papers = are.marked.of_papers; of_groups = are.marked.of_groups; reviewers = are.marked.of_reviewers }
 
 spelled_from : (sizes : Sizes) (answer : Answer) → IsAnswerFor sizes answer → IsSpelled answer
 spelled_from sizes (Lottery winning) are = are.pieces.0
 spelled_from sizes (Infeasible blocked) are = (are.need, are.room)
 
-pub certificate_from : (rules : RulesValue) (answer : Answer) → AreRules rules → IsWholeAnswer answer → IsAnswerFor (sizes_of rules) answer → IsCertificate rules answer
-certificate_from rules answer kept whole are = record {
+pub certificate_from : (rules : RulesValue) (answer : Answer) → AreRules rules → SuitsItsMode answer → IsAnswerFor (sizes_of rules) answer → IsCertificate rules answer
+certificate_from rules answer kept suits are = record {
   rules_kept = kept;
-  whole = whole;
-  matching = matches_from rules answer kept whole are;
+  suits = suits;
+  matching = matches_from rules answer kept are;
   spelled = spelled_from (sizes_of rules) answer are;
 }
 
 answer_for : (rules : RulesValue) (answer : Answer) → AreRules rules → AnswerMatches rules answer → IsSpelled answer → IsAnswerFor (sizes_of rules) answer
 answer_for rules (Lottery winning) kept matching spelled = record {
+  level = level_for rules winning.level matching.level;
   total = matching.in_all;
   prices = record { papers = matching.prices.papers; of_groups = matching.prices.of_groups; reviewers = matching.prices.reviewers };
   shares = shares_for rules winning.shares kept matching.shares;
@@ -84,21 +99,21 @@ answer_for rules (Infeasible blocked) kept matching spelled = record {
 -- ---- the answer
 
 behind_takes : (sizes : Sizes) (kind : AnswerKind) (at rest : Cursor) (answer : Answer) → AreSmall sizes → answer_behind sizes kind at ≡ Ok (answer, rest)
-    → IsWholeAnswer answer × IsAnswerFor sizes answer × (line_of (kind_line kind) ++ at.bytes ≡ answer_text answer ++ rest.bytes)
+    → SuitsItsMode answer × IsAnswerFor sizes answer × (line_of (kind_line kind) ++ at.bytes ≡ answer_text answer ++ rest.bytes)
 unfolding answer_text
 behind_takes sizes kinds.Lottery at rest answer small e =
     let a = bind_ok (lottery_at sizes at) (λ winning. Ok (Lottery winning.0, winning.1)) (answer, rest) e in
     let t = lottery_takes sizes at a.0.1 a.0.0 small a.1 in
     let same = ok_is {E = TextFault} (Lottery a.0.0, a.0.1) (answer, rest) a.2 in
-    subst (λ (x : Answer × Cursor). IsWholeAnswer x.0 × IsAnswerFor sizes x.0 × (line_of (kind_line kinds.Lottery) ++ at.bytes ≡ answer_text x.0 ++ x.1.bytes)) same (t.0, t.1, t.2)
+    subst (λ (x : Answer × Cursor). SuitsItsMode x.0 × IsAnswerFor sizes x.0 × (line_of (kind_line kinds.Lottery) ++ at.bytes ≡ answer_text x.0 ++ x.1.bytes)) same (t.0, t.1, t.2)
 behind_takes sizes kinds.Infeasible at rest answer small e =
     let a = bind_ok (infeasible_at sizes at) (λ blocked. Ok (Infeasible blocked.0, blocked.1)) (answer, rest) e in
     let t = infeasible_takes sizes at a.0.1 a.0.0 small a.1 in
     let same = ok_is {E = TextFault} (Infeasible a.0.0, a.0.1) (answer, rest) a.2 in
-    subst (λ (x : Answer × Cursor). IsWholeAnswer x.0 × IsAnswerFor sizes x.0 × (line_of (kind_line kinds.Infeasible) ++ at.bytes ≡ answer_text x.0 ++ x.1.bytes)) same (t.0, t.1, t.2)
+    subst (λ (x : Answer × Cursor). SuitsItsMode x.0 × IsAnswerFor sizes x.0 × (line_of (kind_line kinds.Infeasible) ++ at.bytes ≡ answer_text x.0 ++ x.1.bytes)) same (tt, t.0, t.1)
 
 answer_takes : (sizes : Sizes) (at rest : Cursor) (answer : Answer) → AreSmall sizes → answer_at sizes at ≡ Ok (answer, rest)
-    → IsWholeAnswer answer × IsAnswerFor sizes answer × (at.bytes ≡ answer_text answer ++ rest.bytes)
+    → SuitsItsMode answer × IsAnswerFor sizes answer × (at.bytes ≡ answer_text answer ++ rest.bytes)
 unfolding answer_at
 answer_takes sizes at rest answer small e =
     let a = bind_ok (due kind_of at) (λ kind. answer_behind sizes kind.0 kind.1) (answer, rest) e in
@@ -106,16 +121,16 @@ answer_takes sizes at rest answer small e =
     let t = behind_takes sizes a.0.0 a.0.1 rest answer small a.2 in
     (t.0, t.1, kind.1 ∙ t.2)
 
-answer_again : (sizes : Sizes) (number : ℕ) (answer : Answer) (rest : List ℕ) → AreSmall sizes → IsWholeAnswer answer → IsAnswerFor sizes answer
+answer_again : (sizes : Sizes) (number : ℕ) (answer : Answer) (rest : List ℕ) → AreSmall sizes → SuitsItsMode answer → IsAnswerFor sizes answer
     → (m : ℕ) × (answer_at sizes (record { number = number; bytes = answer_text answer ++ rest }) ≡ Ok (answer, record { number = m; bytes = rest }))
 unfolding answer_at answer_text
-answer_again sizes number (Lottery winning) rest small whole are =
-    let t = lottery_again sizes winning rest small whole are in
+answer_again sizes number (Lottery winning) rest small suits are =
+    let t = lottery_again sizes winning rest small suits are in
     let kind = item_again _ _ _ kind_spells [] number t.0 kinds.Lottery tt in
     let read = t.2 (following number) in
     (read.0, rw (t.1, kind, read.1) refl)
-answer_again sizes number (Infeasible blocked) rest small whole are =
-    let t = infeasible_again sizes blocked rest small whole are in
+answer_again sizes number (Infeasible blocked) rest small suits are =
+    let t = infeasible_again sizes blocked rest small are in
     let kind = item_again _ _ _ kind_spells [] number t.0 kinds.Infeasible tt in
     let read = t.2 (following number) in
     (read.0, rw (t.1, kind, read.1) refl)
@@ -143,7 +158,7 @@ pub certificate_again : (number : ℕ) (rules : RulesValue) (answer : Answer) �
 unfolding certificate_at certificate_text
 certificate_again number rules answer is =
     let first = rules_again rules number (answer_text answer) is.rules_kept in
-    let second = answer_again (sizes_of rules) first.0 answer [] (sizes_small rules is.rules_kept) is.whole (answer_for rules answer is.rules_kept is.matching is.spelled) in
+    let second = answer_again (sizes_of rules) first.0 answer [] (sizes_small rules is.rules_kept) is.suits (answer_for rules answer is.rules_kept is.matching is.spelled) in
     let here : answer_at (sizes_of rules) (record { number = first.0; bytes = answer_text answer }) ≡ Ok (answer, record { number = second.0; bytes = [] }) = rw append-nil at second.1 in
     rw (first.1, here, end_ok (record { number = second.0; bytes = [] }) refl) refl
 
@@ -162,7 +177,7 @@ pub certificates_apart : (rules others : RulesValue) (answer other : Answer) (mo
 unfolding certificate_at certificate_text
 certificates_apart rules others answer other more is too same =
     let first = rules_again others 1 (answer_text other ++ more) too.rules_kept in
-    let second = answer_again (sizes_of others) first.0 other more (sizes_small others too.rules_kept) too.whole (answer_for others other too.rules_kept too.matching too.spelled) in
+    let second = answer_again (sizes_of others) first.0 other more (sizes_small others too.rules_kept) too.suits (answer_for others other too.rules_kept too.matching too.spelled) in
     let text : rules_text rules ++ answer_text answer ≡ rules_text others ++ (answer_text other ++ more) = same ∙ append_assoc (rules_text others) (answer_text other) more in
     let whole = rw text at (certificate_again 1 rules answer is) in
     let rest : Cursor = record { number = second.0; bytes = more } in
@@ -180,8 +195,8 @@ rules_apart rules others more is too same =
 pub answers_apart : (rules : RulesValue) (answer other : Answer) (more : List ℕ) → IsCertificate rules answer → IsCertificate rules other → answer_text answer ≡ answer_text other ++ more → more ≡ []
 answers_apart rules answer other more is too same =
     let small = sizes_small rules is.rules_kept in
-    let first = answer_again (sizes_of rules) 1 other more small too.whole (answer_for rules other too.rules_kept too.matching too.spelled) in
-    let whole = answer_again (sizes_of rules) 1 answer [] small is.whole (answer_for rules answer is.rules_kept is.matching is.spelled) in
+    let first = answer_again (sizes_of rules) 1 other more small too.suits (answer_for rules other too.rules_kept too.matching too.spelled) in
+    let whole = answer_again (sizes_of rules) 1 answer [] small is.suits (answer_for rules answer is.rules_kept is.matching is.spelled) in
     let here : answer_at (sizes_of rules) (record { number = 1; bytes = answer_text answer }) ≡ Ok (answer, record { number = whole.0; bytes = [] }) = rw append-nil at whole.1 in
     let there : answer_at (sizes_of rules) (record { number = 1; bytes = answer_text answer }) ≡ Ok (other, record { number = first.0; bytes = more }) = rw same first.1 in
     let one = ok_is {E = TextFault} (other, record { number = first.0; bytes = more }) (answer, record { number = whole.0; bytes = [] }) (sym there ∙ here) in
@@ -217,7 +232,7 @@ answer_whole_takes rules at answer kept e =
 pub answer_whole_again : (rules : RulesValue) (number : ℕ) (answer : Answer) → IsCertificate rules answer → answer_whole_at (sizes_of rules) (record { number = number; bytes = answer_text answer }) ≡ Ok answer
 unfolding answer_whole_at
 answer_whole_again rules number answer is =
-    let first = answer_again (sizes_of rules) number answer [] (sizes_small rules is.rules_kept) is.whole (answer_for rules answer is.rules_kept is.matching is.spelled) in
+    let first = answer_again (sizes_of rules) number answer [] (sizes_small rules is.rules_kept) is.suits (answer_for rules answer is.rules_kept is.matching is.spelled) in
     let here : answer_at (sizes_of rules) (record { number = number; bytes = answer_text answer }) ≡ Ok (answer, record { number = first.0; bytes = [] }) = rw append-nil at first.1 in
     rw (here, end_ok (record { number = first.0; bytes = [] }) refl) refl
 

@@ -30,7 +30,7 @@ use Rattle.publication.proofs.PieceSpells.{spelled, are_spelled, short_line, few
 abbrev of_two : {A : Type 0} → Bool → Bool → A → A → Result A LineCode
 of_two a b x y = cond a (Ok x) (cond b (Ok y) (Err Form))
 
-two_take : {A : Type 0} (line first second : List ℕ) (x y z : A) → of_two (bytes_eq line first) (bytes_eq line second) x y ≡ Ok z → ((line ≡ first) × (x ≡ z)) ⊎ ((line ≡ second) × (y ≡ z))
+pub two_take : {A : Type 0} (line first second : List ℕ) (x y z : A) → of_two (bytes_eq line first) (bytes_eq line second) x y ≡ Ok z → ((line ≡ first) × (x ≡ z)) ⊎ ((line ≡ second) × (y ≡ z))
 two_take {A} line first second x y z e = by (bytes_eq line first) (bytes_eq line second) refl refl e
   where
     by : (a b : Bool) → bytes_eq line first ≡ a → bytes_eq line second ≡ b → of_two a b x y ≡ Ok z → ((line ≡ first) × (x ≡ z)) ⊎ ((line ≡ second) × (y ≡ z))

@@ -15,7 +15,7 @@ use Rattle.text_lines.specs.Texts.{AllAlong}
 use Rattle.text_lines.proofs.TextLaws.{along_from, along_at, along_from_at}
 use Rattle.match_rules.specs.declared.sizes.Sizes.{Sizes}
 use Rattle.publication.specs.AnswerForms.{price_of, share_of, piece_of, piece_line, in_range}
-use Rattle.publication.specs.Certificates.{AreSharesFor, ArePiecesFor}
+use Rattle.publication.specs.Certificates.{AreShares, ArePiecesFor}
 use Rattle.publication.proofs.AnswerLaws.{price_spells, share_spells}
 use Rattle.publication.proofs.AscendLaws.{ascends_to, ascends_from}
 use Rattle.publication.proofs.LastLaws.{behind_at, behind_each, less_is}
@@ -40,14 +40,14 @@ prices_fit count zs low high from = prices_along count zs low high (along_from (
 pub along_prices : (count : ℕ) (zs : List ℤ) → ArePrices count zs → AllAlong FitsPrice [] zs
 along_prices count zs are = along_from_at FitsPrice [] zs (pos 0) (λ k lt. are.1 k (pos 0) lt)
 
-pub shares_along : (sizes : Sizes) (ns : List ℕ) → sizes.pairs ≤ length ns → length ns ≤ sizes.pairs → AllAlong FitsShare [] ns → AreSharesFor sizes ns
-shares_along sizes ns low high all = (omega arith, λ k d lt. along_at FitsShare [] ns d k all lt)
+pub shares_along : (count : ℕ) (ns : List ℕ) → count ≤ length ns → length ns ≤ count → AllAlong FitsShare [] ns → AreShares count ns
+shares_along count ns low high all = (omega arith, λ k d lt. along_at FitsShare [] ns d k all lt)
 
-pub shares_fit : (sizes : Sizes) (ns : List ℕ) → sizes.pairs ≤ length ns → length ns ≤ sizes.pairs → AllFrom (λ before. share_of) [] ns → AreSharesFor sizes ns
-shares_fit sizes ns low high from = shares_along sizes ns low high (along_from (λ before. share_of) FitsShare decimal share_spells [] ns from)
+pub shares_fit : (count : ℕ) (ns : List ℕ) → count ≤ length ns → length ns ≤ count → AllFrom (λ before. share_of) [] ns → AreShares count ns
+shares_fit count ns low high from = shares_along count ns low high (along_from (λ before. share_of) FitsShare decimal share_spells [] ns from)
 
-pub along_shares : (sizes : Sizes) (ns : List ℕ) → AreSharesFor sizes ns → AllAlong FitsShare [] ns
-along_shares sizes ns are = along_from_at FitsShare [] ns 0 (λ k lt. are.1 k 0 lt)
+pub along_shares : (count : ℕ) (ns : List ℕ) → AreShares count ns → AllAlong FitsShare [] ns
+along_shares count ns are = along_from_at FitsShare [] ns 0 (λ k lt. are.1 k 0 lt)
 
 -- ---- pieces
 

@@ -14,6 +14,8 @@ pub mod ScanLaws
 pub mod FitLaws
 pub mod TestLaws
 pub mod CutLaws
+pub mod AskedLaws
+pub mod CutParts
 pub mod LotteryReading
 pub mod LotteryLaws
 pub mod CutReading

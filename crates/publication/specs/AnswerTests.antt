@@ -2,14 +2,19 @@
 use Rattle.std.specs.Prelude.{ℕ, Bool, true, false, ◌&&◌, ◌||◌, nat_le, nat_lt, List, [], ◌∷◌, drop, map, if◌then◌else◌, codes}
 use Rattle.std.specs.List.{list_all}
 use Rattle.std.specs.Str.{bytes_eq}
+use Rattle.match_rules.specs.declared.answer.Mode.{Mode}
+use Rattle.match_rules.specs.declared.answer.Mode.TheVariants.{Whole, Fair}
 use Rattle.match_rules.specs.declared.lottery.Piece.{Piece}
 use Rattle.match_rules.specs.declared.rules.TheConstants.{RULES_TICKETS}
 use Rattle.match_rules.specs.Answers.{most_price, most_total}
+use Rattle.match_rules.specs.Rules.{most_score}
 use Rattle.text_lines.specs.Fields.{fields}
-use Rattle.text_lines.specs.LineTests.{Tests, LineTests, are_so_many, part}
-use Rattle.text_lines.specs.Numbers.{is_canonical, is_canonical_signed, value, size}
+use Rattle.text_lines.specs.LineTests.{Tests, LineTests, are_so_many, part, words_tests}
+use Rattle.text_lines.specs.Numbers.{is_canonical, is_canonical_signed, value, signed_value, size}
 use Rattle.publication.specs.declared.answer_forms.AnswerKind.{AnswerKind}
 use Rattle.publication.specs.declared.answer_forms.AnswerKind.TheVariants as kinds
+use Rattle.publication.specs.declared.asked_forms.Asked.{Asked}
+use Rattle.publication.specs.declared.asked_forms.Asked.TheVariants as asked
 use Rattle.publication.specs.AnswerForms.{ascends, in_range, stands_behind}
 
 -- ---- one word or another
@@ -27,6 +32,28 @@ kind_from line = if bytes_eq line (codes "lottery 1") then kinds.Lottery else ki
 -- the side of a cut
 abbrev pub side_tests : LineTests
 side_tests = either_tests (codes "cut into") (codes "cut out-of")
+
+-- ---- the mode and the threshold
+
+abbrev pub mode_tests : LineTests
+mode_tests = either_tests (codes "mode whole") (codes "mode fair")
+
+abbrev pub mode_from : List ℕ → Mode
+mode_from line = if bytes_eq line (codes "mode whole") then Whole else Fair
+
+-- a word and a canonical score within its limit
+abbrev pub has_score : List (List ℕ) → Bool
+has_score parts =
+    are_so_many 2 parts && (bytes_eq (part 0 parts) (codes "threshold") && (is_canonical_signed (part 1 parts) && nat_le (size (part 1 parts)) most_score))
+
+-- the threshold in a mode: whatever else stands there has another form
+abbrev pub threshold_tests : Mode → LineTests
+threshold_tests Whole line = words_tests (codes "threshold none") line
+threshold_tests Fair line = record { form = bytes_eq line (codes "threshold free") || has_score (fields line); number = true; range = true; id = true; order = true }
+
+abbrev pub threshold_from : Mode → List ℕ → Asked
+threshold_from Whole line = asked.Whole
+threshold_from Fair line = if bytes_eq line (codes "threshold free") then asked.Free else asked.At (signed_value (part 1 (fields line)))
 
 -- ---- numbers
 

@@ -1,17 +1,17 @@
--- Answers of the mode whole that match their rules, and the text of both.
+-- Answers that match their rules, and the text of both.
 use Rattle.std.specs.Prelude.{◌≡◌, ℕ, ◌<◌, ◌≤◌, List, ◌++◌, length, All}
 use Rattle.match_rules.specs.declared.answer.Answer.{Answer}
 use Rattle.match_rules.specs.declared.answer.Answer.TheVariants.{Lottery, Infeasible}
 use Rattle.match_rules.specs.declared.answer.Blocked.{Blocked}
-use Rattle.match_rules.specs.declared.answer.Level.TheVariants.{Unasked}
-use Rattle.match_rules.specs.declared.answer.Mode.TheVariants.{Whole}
+use Rattle.match_rules.specs.declared.answer.Level.{Level}
+use Rattle.match_rules.specs.declared.answer.Level.TheVariants.{Unasked, Free, At}
 use Rattle.match_rules.specs.declared.answer.Prices.{Prices}
 use Rattle.match_rules.specs.declared.answer.Winning.{Winning}
 use Rattle.match_rules.specs.declared.lottery.Piece.{Piece}
 use Rattle.match_rules.specs.declared.rules.TheConstants.{RULES_TICKETS}
 use Rattle.match_rules.specs.Answers.{AnswerMatches, AreMarks, ArePrices, IsWithin, SuitsMode, most_total}
 use Rattle.match_rules.specs.Pieces.{ArePieces}
-use Rattle.match_rules.specs.Rules.{RulesValue, AreRules}
+use Rattle.match_rules.specs.Rules.{RulesValue, AreRules, most_score}
 use Rattle.text_lines.specs.declared.number.TheConstants.{MOST_AMOUNT}
 use Rattle.publication.specs.declared.certificate.Certificate.{Certificate}
 use Rattle.match_rules.specs.declared.sizes.Sizes.{Sizes}
@@ -25,31 +25,37 @@ pub record ArePricesFor (sizes : Sizes) (prices : Prices) : Type 0 where
   pub of_groups : ArePrices sizes.groups prices.groups
   pub reviewers : ArePrices sizes.reviewers prices.reviewers
 
+-- one share for each of a count
+abbrev pub AreShares : ℕ → List ℕ → Type 0
+AreShares count shares = (length shares ≡ count) × All (λ share. share ≤ RULES_TICKETS) shares
+
 -- one share for each pair
 abbrev pub AreSharesFor : Sizes → List ℕ → Type 0
-AreSharesFor sizes shares = (length shares ≡ sizes.pairs) × All (λ share. share ≤ RULES_TICKETS) shares
+AreSharesFor sizes shares = AreShares sizes.pairs shares
 
 -- the pieces of a lottery, with places of pairs that there are
 abbrev pub ArePiecesFor : Sizes → List Piece → Type 0
 ArePiecesFor sizes pieces = ArePieces pieces × All (λ piece. All (λ e. e < sizes.pairs) piece.pairs) pieces
-
--- a lottery of the mode whole has no threshold
-pub record IsWhole (winning : Winning) : Type 0 where
-  pub mode : winning.mode ≡ Whole
-  pub level : winning.level ≡ Unasked
-
--- a lottery with a list of each size
-pub record IsLotteryFor (sizes : Sizes) (winning : Winning) : Type 0 where
-  pub total : IsWithin most_total winning.total
-  pub prices : ArePricesFor sizes winning.prices
-  pub shares : AreSharesFor sizes winning.shares
-  pub pieces : ArePiecesFor sizes winning.lottery
 
 -- marked papers, groups and reviewers
 pub record AreMarked (sizes : Sizes) (papers groups reviewers : List ℕ) : Type 0 where
   pub of_papers : AreMarks sizes.papers papers
   pub of_groups : AreMarks sizes.groups groups
   pub of_reviewers : AreMarks sizes.reviewers reviewers
+
+-- the level of a lottery: a score within its limit has a cut with a list of each kind
+abbrev pub LevelFits : Sizes → Level → Type 0
+LevelFits sizes Unasked = Unit {0}
+LevelFits sizes Free = Unit {0}
+LevelFits sizes (At score cut) = IsWithin most_score score × AreMarked sizes cut.papers cut.groups cut.reviewers
+
+-- a lottery with a list of each size
+pub record IsLotteryFor (sizes : Sizes) (winning : Winning) : Type 0 where
+  pub level : LevelFits sizes winning.level
+  pub total : IsWithin most_total winning.total
+  pub prices : ArePricesFor sizes winning.prices
+  pub shares : AreSharesFor sizes winning.shares
+  pub pieces : ArePiecesFor sizes winning.lottery
 
 -- a cut with a list of each kind, and sums of 64 bits
 pub record IsBlockedFor (sizes : Sizes) (blocked : Blocked) : Type 0 where
@@ -67,24 +73,19 @@ abbrev pub SuitsItsMode : Answer → Type 0
 SuitsItsMode (Lottery winning) = SuitsMode winning.mode winning.level
 SuitsItsMode (Infeasible blocked) = Unit {0}
 
--- an answer of the mode whole
-abbrev pub IsWholeAnswer : Answer → Type 0
-IsWholeAnswer (Lottery winning) = IsWhole winning
-IsWholeAnswer (Infeasible blocked) = blocked.mode ≡ Whole
-
 -- what the types of an answer keep by themselves: the pieces of a lottery, sums of 64 bits of a cut
 abbrev pub IsSpelled : Answer → Type 0
 IsSpelled (Lottery winning) = ArePieces winning.lottery
 IsSpelled (Infeasible blocked) = (blocked.need ≤ MOST_AMOUNT) × (blocked.room ≤ MOST_AMOUNT)
 
--- rules, and an answer of the mode whole that matches them
+-- rules, and an answer that matches them, whose level is unasked exactly in the mode whole
 pub record IsCertificate (rules : RulesValue) (answer : Answer) : Type 0 where
   pub rules_kept : AreRules rules
-  pub whole : IsWholeAnswer answer
+  pub suits : SuitsItsMode answer
   pub matching : AnswerMatches rules answer
   pub spelled : IsSpelled answer
 
--- the text of an answer of the mode whole
+-- the text of an answer
 unfoldable pub answer_text : Answer → List ℕ
 answer_text (Lottery winning) = lottery_text winning
 answer_text (Infeasible blocked) = infeasible_text blocked

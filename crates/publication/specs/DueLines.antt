@@ -1,5 +1,6 @@
 -- What is due behind the lines of a text: of rules, of an answer, and of a certificate, which is both.
 use Rattle.std.specs.Prelude.{ℕ, ℤ, List, length, codes}
+use Rattle.match_rules.specs.declared.answer.Mode.{Mode}
 use Rattle.match_rules.specs.declared.lottery.Piece.{Piece}
 use Rattle.match_rules.specs.declared.rules.RulePaper.{RulePaper}
 use Rattle.match_rules.specs.declared.rules.RuleReviewer.{RuleReviewer}
@@ -15,7 +16,9 @@ use Rattle.text_lines.specs.LineTests.{part}
 use Rattle.text_lines.specs.Numbers.{value, signed_value}
 use Rattle.publication.specs.declared.answer_forms.AnswerKind.{AnswerKind}
 use Rattle.publication.specs.declared.answer_forms.AnswerKind.TheVariants as kinds
-use Rattle.publication.specs.AnswerTests.{kind_tests, kind_from, side_tests, total_tests, price_tests, share_tests, piece_tests, piece_from, marks_tests}
+use Rattle.publication.specs.declared.asked_forms.Asked.{Asked}
+use Rattle.publication.specs.declared.asked_forms.Asked.TheVariants as asked
+use Rattle.publication.specs.AnswerTests.{kind_tests, kind_from, mode_tests, mode_from, threshold_tests, threshold_from, side_tests, total_tests, price_tests, share_tests, piece_tests, piece_from, marks_tests}
 use Rattle.publication.specs.RulesTests.{paper_tests, paper_from, reviewer_tests, reviewer_from, pair_tests, pair_from}
 
 -- ---- rules
@@ -38,6 +41,18 @@ rules_then then =
     words_then (codes "end rules") (
     then (rules_value RULES_TICKETS limit lists.0 lists.1 lists.2))))))
 
+-- ---- the cut of an answer
+
+abbrev pub marks_then : List ℕ → ℕ → Due → Due
+marks_then word count then = line_then (marks_tests word count) (λ line. then)
+
+abbrev pub cut_then : Sizes → Due → Due
+cut_then sizes then =
+    line_then side_tests (λ line.
+    marks_then (codes "marked-papers") sizes.papers (
+    marks_then (codes "marked-groups") sizes.groups (
+    marks_then (codes "marked-reviewers") sizes.reviewers then)))
+
 -- ---- a lottery, behind its first line
 
 abbrev pub price_list_then : List ℕ → ℕ → Due → Due
@@ -50,35 +65,39 @@ prices_then sizes then =
     price_list_then (codes "reviewer-prices") sizes.reviewers then))
 
 abbrev pub shares_then : Sizes → Due → Due
-shares_then sizes then =
-    section_then (codes "shares") sizes.pairs sizes.pairs (λ (before : List ℕ). share_tests) (λ line. value (part 0 (fields line))) (λ shares.
-    words_then (codes "cut none") then)
+shares_then sizes then = section_then (codes "shares") sizes.pairs sizes.pairs (λ (before : List ℕ). share_tests) (λ line. value (part 0 (fields line))) (λ shares. then)
 
 abbrev pub pieces_then : Sizes → Due → Due
 pieces_then sizes then =
     section_then (codes "pieces") 0 MOST_TICKETS (piece_tests sizes.pairs) (λ line. piece_from (fields line)) (λ pieces.
     words_then (codes "end lottery") then)
 
+-- the threshold, and then what it asks for
+abbrev pub threshold_then : Mode → (Asked → Due) → Due
+threshold_then mode then = line_then (threshold_tests mode) (λ line. then (threshold_from mode line))
+
+-- the mode and the threshold
+abbrev pub asked_then : (Asked → Due) → Due
+asked_then then = line_then mode_tests (λ line. threshold_then (mode_from line) then)
+
+-- the cut of a threshold, which only one with a score has
+abbrev pub level_then : Sizes → Asked → Due → Due
+level_then sizes asked.Whole then = words_then (codes "cut none") then
+level_then sizes asked.Free then = words_then (codes "cut none") then
+level_then sizes (asked.At score) then = cut_then sizes then
+
+abbrev pub worth_then : Sizes → Due → Due
+worth_then sizes then = line_then total_tests (λ line. prices_then sizes then)
+
 unfoldable pub lottery_then : Sizes → Due → Due
 lottery_then sizes then =
-    words_then (codes "mode whole") (
-    words_then (codes "threshold none") (
-    line_then total_tests (λ line.
-    prices_then sizes (
+    asked_then (λ found.
+    worth_then sizes (
     shares_then sizes (
-    pieces_then sizes then)))))
+    level_then sizes found (
+    pieces_then sizes then))))
 
 -- ---- a cut that forbids all lotteries, behind its first line
-
-abbrev pub marks_then : List ℕ → ℕ → Due → Due
-marks_then word count then = line_then (marks_tests word count) (λ line. then)
-
-abbrev pub cut_then : Sizes → Due → Due
-cut_then sizes then =
-    line_then side_tests (λ line.
-    marks_then (codes "marked-papers") sizes.papers (
-    marks_then (codes "marked-groups") sizes.groups (
-    marks_then (codes "marked-reviewers") sizes.reviewers then)))
 
 abbrev pub sums_then : Due → Due
 sums_then then =
@@ -87,7 +106,7 @@ sums_then then =
     words_then (codes "end infeasible") then))
 
 unfoldable pub infeasible_then : Sizes → Due → Due
-infeasible_then sizes then = words_then (codes "mode whole") (cut_then sizes (sums_then then))
+infeasible_then sizes then = line_then mode_tests (λ line. cut_then sizes (sums_then then))
 
 -- ---- whole texts
 

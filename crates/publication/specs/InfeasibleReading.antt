@@ -1,14 +1,15 @@
--- Reading the text of an answer of the mode whole without a lottery, behind its first line.
+-- Reading the text of an answer without a lottery, behind its first line, and the cut of any answer.
 use Rattle.std.specs.Prelude.{ℕ, List, Result, Ok, codes}
 use Rattle.match_rules.specs.declared.answer.Blocked.{Blocked}
 use Rattle.match_rules.specs.declared.answer.Cut.{Cut}
-use Rattle.match_rules.specs.declared.answer.Mode.TheVariants.{Whole}
+use Rattle.match_rules.specs.declared.answer.Mode.{Mode}
 use Rattle.match_rules.specs.declared.answer.Side.{Side}
 use Rattle.text_lines.specs.declared.fault.TextFault.{TextFault}
 use Rattle.text_lines.specs.declared.number.TheConstants.{MOST_AMOUNT}
 use Rattle.text_lines.specs.Forms.{fixed, number_after}
 use Rattle.text_lines.specs.Reading.{◌>>=◌, Cursor, due}
 use Rattle.match_rules.specs.declared.sizes.Sizes.{Sizes}
+use Rattle.publication.specs.AskedForms.{mode_of}
 use Rattle.publication.specs.CutForms.{side_of, marks_of}
 
 -- the marked papers, groups and reviewers
@@ -36,13 +37,13 @@ sums_at at = do
   end ← due (fixed (codes "end infeasible")) room.1
   Ok ((need.0, room.0), end.1)
 
--- an answer of the mode whole
-abbrev pub blocked_of : Cut → ℕ × ℕ → Blocked
-blocked_of cut sums = record { mode = Whole; cut = cut; need = sums.0; room = sums.1 }
+-- an answer of a mode
+abbrev pub blocked_of : Mode → Cut → ℕ × ℕ → Blocked
+blocked_of mode cut sums = record { mode = mode; cut = cut; need = sums.0; room = sums.1 }
 
 unfoldable pub infeasible_at : Sizes → Cursor → Result (Blocked × Cursor) TextFault
 infeasible_at sizes at = do
-  mode ← due (fixed (codes "mode whole")) at
+  mode ← due mode_of at
   cut ← cut_at sizes mode.1
   sums ← sums_at cut.1
-  Ok (blocked_of cut.0 sums.0, sums.1)
+  Ok (blocked_of mode.0 cut.0 sums.0, sums.1)

@@ -1,13 +1,16 @@
--- The text of an answer of the mode whole without a lottery.
+-- The text of an answer without a lottery, and of the cut of any answer.
 use Rattle.std.specs.Prelude.{ℕ, List, ◌++◌, codes}
 use Rattle.match_rules.specs.declared.answer.Blocked.{Blocked}
 use Rattle.match_rules.specs.declared.answer.Cut.{Cut}
+use Rattle.match_rules.specs.declared.answer.Mode.{Mode}
 use Rattle.text_lines.specs.Forms.{count_line}
 use Rattle.text_lines.specs.Texts.{line_of}
+use Rattle.publication.specs.AskedForms.{mode_line}
 use Rattle.publication.specs.CutForms.{side_line, marks_line}
 
-unfoldable pub infeasible_head_text : List ℕ
-infeasible_head_text = line_of (codes "infeasible 1") ++ line_of (codes "mode whole")
+-- the kind of text and the mode
+unfoldable pub infeasible_head_text : Mode → List ℕ
+infeasible_head_text mode = line_of (codes "infeasible 1") ++ line_of (mode_line mode)
 
 -- the marked papers, groups and reviewers
 unfoldable pub marked_text : List ℕ → List ℕ → List ℕ → List ℕ
@@ -23,4 +26,4 @@ sums_text need room = line_of (count_line (codes "need") need) ++ (line_of (coun
 
 -- all of it
 unfoldable pub infeasible_text : Blocked → List ℕ
-infeasible_text blocked = infeasible_head_text ++ (cut_text blocked.cut ++ sums_text blocked.need blocked.room)
+infeasible_text blocked = infeasible_head_text blocked.mode ++ (cut_text blocked.cut ++ sums_text blocked.need blocked.room)

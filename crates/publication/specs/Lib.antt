@@ -2,6 +2,7 @@ pub mod AnswerForms
 pub mod AnswerReading
 pub mod AnswerTests
 pub mod AnswerText
+pub mod AskedForms
 pub mod Certificates
 pub mod Checks
 pub mod CutForms

@@ -1,12 +1,18 @@
 // Reading the text of a lottery, behind its first line, for the rules that it answers.
 ghost use Rattle.std.specs.Prelude.{◌≡◌, ◌≤◌, IsSome, IfOk, List, ℤ, Result, Ok, codes, length};
 ghost use Rattle.edge_io.specs.Told.{told, TellsNoMore};
-ghost use Rattle.match_rules.specs.Answers.{ArePrices, IsWithin, most_total};
+ghost use Rattle.match_rules.specs.Answers.{ArePrices, IsWithin, SuitsMode, most_total};
+ghost use Rattle.match_rules.specs.Rules.{most_score};
+ghost use Rattle.text_lines.specs.Forms.{section_at};
 ghost use Rattle.text_lines.specs.Reading.{Gives, FaultHasCause, cursor, due};
-ghost use Rattle.publication.specs.AnswerReading.{answer_head_at, price_list_at, prices_at, shares_at, pieces_at, worth_at, lottery_at};
-ghost use Rattle.publication.specs.Certificates.{ArePricesFor, AreSharesFor, ArePiecesFor, IsLotteryFor, IsWhole};
+ghost use Rattle.publication.specs.AnswerForms.{share_of};
+ghost use Rattle.publication.specs.AnswerReading.{asked_at, price_list_at, prices_at, no_cut_at, cut_level_at, level_at, dealt_at, pieces_at, worth_at, lottery_with, lottery_at};
+ghost use Rattle.publication.specs.AskedForms.{IsAsked, mode_of_level, threshold_of};
+ghost use Rattle.publication.specs.Certificates.{ArePricesFor, AreShares, AreSharesFor, ArePiecesFor, IsLotteryFor, LevelFits};
 
 use crate::answer_forms::{PriceLine, ShareLine, TotalLine};
+use crate::asked_forms::{Asked, ModeLine, ThresholdLine, mode_of_level};
+use crate::infeasible_text::read_cut;
 use crate::pieces::PieceLine;
 use edge_io::Source;
 use match_rules::{
@@ -22,14 +28,40 @@ struct Worth {
     prices: Prices,
 }
 
-#[tactic(auto, unfolding(crate::specs::AnswerReading::answer_head_at))]
-fn read_head<S: Source>(alloc: Global, lines: &mut Lines, source: &mut S) -> Result<(), ReadError>
-    ensures reads { IsSome (S.left source.new) → Gives (λ item. item) result (cursor lines.new (S.left source.new)) (answer_head_at (cursor lines.old (S.left source.old))) }
+// The shares, and the level of the threshold.
+#[derive(Drop)]
+struct Dealt {
+    shares: Shares,
+    level: Level,
+}
+
+fn read_threshold<S: Source>(
+    alloc: Global,
+    lines: &mut Lines,
+    source: &mut S,
+    mode: Mode,
+) -> Result<Asked, ReadError>
+    ensures reads { IsSome (S.left source.new) → Gives (λ asked. asked) result (cursor lines.new (S.left source.new)) (due (threshold_of mode) (cursor lines.old (S.left source.old))) }
+    ensures fits { IfOk result IsAsked }
     ensures untold { TellsNoMore (S.left source.old) (S.left source.new) }
     ensures cause { FaultHasCause (S.faults source.old) (S.faults source.new) (S.left source.new) result }
 {
-    read_words(alloc, lines, source, "mode whole")?;
-    read_words(alloc, lines, source, "threshold none")
+    read_line(alloc, lines, source, &mut ThresholdLine { mode }, &[])
+}
+
+#[tactic(auto, unfolding(crate::specs::AnswerReading::asked_at))]
+fn read_asked<S: Source>(
+    alloc: Global,
+    lines: &mut Lines,
+    source: &mut S,
+) -> Result<Asked, ReadError>
+    ensures reads { IsSome (S.left source.new) → Gives (λ asked. asked) result (cursor lines.new (S.left source.new)) (asked_at (cursor lines.old (S.left source.old))) }
+    ensures fits { IfOk result IsAsked }
+    ensures untold { TellsNoMore (S.left source.old) (S.left source.new) }
+    ensures cause { FaultHasCause (S.faults source.old) (S.faults source.new) result }
+{
+    let mode = read_line(alloc, lines, source, &mut ModeLine {}, &[])?;
+    read_threshold(alloc, lines, source, mode)
 }
 
 #[tactic(auto, unfolding(crate::specs::AnswerReading::price_list_at))]
@@ -71,16 +103,14 @@ fn read_prices<S: Source>(
     })
 }
 
-// The shares, and that there is no cut.
-#[tactic(auto, unfolding(crate::specs::AnswerReading::shares_at))]
 fn read_shares<S: Source>(
     alloc: Global,
     lines: &mut Lines,
     source: &mut S,
-    sizes: Sizes,
+    count: u32,
 ) -> Result<Shares, ReadError>
-    ensures reads { IsSome (S.left source.new) → Gives (λ shares. shares) result (cursor lines.new (S.left source.new)) (shares_at sizes (cursor lines.old (S.left source.old))) }
-    ensures fits { IfOk result (AreSharesFor sizes) }
+    ensures reads { IsSome (S.left source.new) → Gives (λ shares. shares) result (cursor lines.new (S.left source.new)) (section_at (codes "shares") count count (λ before. share_of) (cursor lines.old (S.left source.old))) }
+    ensures fits { IfOk result (AreShares count) }
     ensures untold { TellsNoMore (S.left source.old) (S.left source.new) }
     ensures cause { FaultHasCause (S.faults source.old) (S.faults source.new) (S.left source.new) result }
 {
@@ -89,12 +119,86 @@ fn read_shares<S: Source>(
         lines,
         source,
         "shares",
-        sizes.pairs,
-        sizes.pairs,
+        count,
+        count,
         &mut ShareLine {},
     )?;
-    read_words(alloc, lines, source, "cut none")?;
     Ok(Shares::from_vec(shares))
+}
+
+// That a level without a score has no cut.
+fn read_no_cut<S: Source>(
+    alloc: Global,
+    lines: &mut Lines,
+    source: &mut S,
+    level: Level,
+) -> Result<Level, ReadError>
+    ensures reads { IsSome (S.left source.new) → Gives (λ found. found) result (cursor lines.new (S.left source.new)) (no_cut_at level (cursor lines.old (S.left source.old))) }
+    ensures same { IfOk result (λ found. found ≡ level) }
+    ensures untold { TellsNoMore (S.left source.old) (S.left source.new) }
+    ensures cause { FaultHasCause (S.faults source.old) (S.faults source.new) result }
+{
+    read_words(alloc, lines, source, "cut none")?;
+    Ok(level)
+}
+
+// The cut of a level with a score.
+fn read_level_at<S: Source>(
+    alloc: Global,
+    lines: &mut Lines,
+    source: &mut S,
+    sizes: Sizes,
+    score: i64,
+) -> Result<Level, ReadError>
+    requires { IsWithin most_score score }
+    ensures reads { IsSome (S.left source.new) → Gives (λ level. level) result (cursor lines.new (S.left source.new)) (cut_level_at sizes score (cursor lines.old (S.left source.old))) }
+    ensures fits { IfOk result (LevelFits sizes) }
+    ensures untold { TellsNoMore (S.left source.old) (S.left source.new) }
+    ensures cause { FaultHasCause (S.faults source.old) (S.faults source.new) result }
+{
+    let cut = read_cut(alloc, lines, source, sizes)?;
+    Ok(Level::At { score, cut })
+}
+
+// The level of a threshold.
+fn read_level<S: Source>(
+    alloc: Global,
+    lines: &mut Lines,
+    source: &mut S,
+    sizes: Sizes,
+    asked: Asked,
+) -> Result<Level, ReadError>
+    requires { IsAsked asked }
+    ensures reads { IsSome (S.left source.new) → Gives (λ level. level) result (cursor lines.new (S.left source.new)) (level_at sizes asked (cursor lines.old (S.left source.old))) }
+    ensures fits { IfOk result (LevelFits sizes) }
+    ensures untold { TellsNoMore (S.left source.old) (S.left source.new) }
+    ensures cause { FaultHasCause (S.faults source.old) (S.faults source.new) result }
+{
+    match asked {
+        Asked::Whole => read_no_cut(alloc, lines, source, Level::Unasked),
+        Asked::Free => read_no_cut(alloc, lines, source, Level::Free),
+        Asked::At { score } => read_level_at(alloc, lines, source, sizes, score),
+    }
+}
+
+#[tactic(auto, unfolding(crate::specs::AnswerReading::dealt_at))]
+fn read_dealt<S: Source>(
+    alloc: Global,
+    lines: &mut Lines,
+    source: &mut S,
+    sizes: Sizes,
+    asked: Asked,
+) -> Result<Dealt, ReadError>
+    requires { IsAsked asked }
+    ensures reads { IsSome (S.left source.new) → Gives (λ dealt. (dealt.shares, dealt.level)) result (cursor lines.new (S.left source.new)) (dealt_at sizes asked (cursor lines.old (S.left source.old))) }
+    ensures shares { IfOk result (λ dealt. AreSharesFor sizes dealt.shares) }
+    ensures level { IfOk result (λ dealt. LevelFits sizes dealt.level) }
+    ensures untold { TellsNoMore (S.left source.old) (S.left source.new) }
+    ensures cause { FaultHasCause (S.faults source.old) (S.faults source.new) result }
+{
+    let shares = read_shares(alloc, lines, source, sizes.pairs)?;
+    let level = read_level(alloc, lines, source, sizes, asked)?;
+    Ok(Dealt { shares, level })
 }
 
 #[tactic(auto, unfolding(crate::specs::AnswerReading::pieces_at))]
@@ -116,7 +220,7 @@ fn read_pieces<S: Source>(
     Ok(Lottery::of_tested(pieces))
 }
 
-// What the lottery is, its total and its prices.
+// The total and the prices.
 #[tactic(auto, unfolding(crate::specs::AnswerReading::worth_at))]
 fn read_worth<S: Source>(
     alloc: Global,
@@ -130,13 +234,42 @@ fn read_worth<S: Source>(
     ensures untold { TellsNoMore (S.left source.old) (S.left source.new) }
     ensures cause { FaultHasCause (S.faults source.old) (S.faults source.new) (S.left source.new) result }
 {
-    read_head(alloc, lines, source)?;
     let total = read_line(alloc, lines, source, &mut TotalLine {}, &[])?;
     let prices = read_prices(alloc, lines, source, sizes)?;
     Ok(Worth { total, prices })
 }
 
-/// Reads the text of a lottery of the mode whole, behind its first line, for the rules that it answers.
+// The lottery with this threshold.
+#[tactic(auto, unfolding(crate::specs::AnswerReading::lottery_with))]
+fn read_lottery_with<S: Source>(
+    alloc: Global,
+    lines: &mut Lines,
+    source: &mut S,
+    sizes: Sizes,
+    asked: Asked,
+) -> Result<Winning, ReadError>
+    requires asked { IsAsked asked }
+    requires few { sizes.pairs ≤ MOST_PAIRS }
+    ensures reads { IsSome (S.left source.new) → Gives (λ winning. winning) result (cursor lines.new (S.left source.new)) (lottery_with sizes asked (cursor lines.old (S.left source.old))) }
+    ensures mode { IfOk result (λ winning. winning.mode ≡ mode_of_level winning.level) }
+    ensures fits { IfOk result (IsLotteryFor sizes) }
+    ensures untold { TellsNoMore (S.left source.old) (S.left source.new) }
+    ensures cause { FaultHasCause (S.faults source.old) (S.faults source.new) result }
+{
+    let worth = read_worth(alloc, lines, source, sizes)?;
+    let dealt = read_dealt(alloc, lines, source, sizes, asked)?;
+    let lottery = read_pieces(alloc, lines, source, sizes)?;
+    Ok(Winning {
+        mode: mode_of_level(&dealt.level),
+        level: dealt.level,
+        total: i128::from(worth.total),
+        prices: worth.prices,
+        shares: dealt.shares,
+        lottery,
+    })
+}
+
+/// Reads the text of a lottery, behind its first line, for the rules that it answers.
 #[tactic(auto, unfolding(crate::specs::AnswerReading::lottery_at))]
 pub fn read_lottery<S: Source>(
     alloc: Global,
@@ -146,20 +279,11 @@ pub fn read_lottery<S: Source>(
 ) -> Result<Winning, ReadError>
     requires { sizes.pairs ≤ MOST_PAIRS }
     ensures reads { IsSome (S.left source.new) → Gives (λ winning. winning) result (cursor lines.new (S.left source.new)) (lottery_at sizes (cursor lines.old (S.left source.old))) }
-    ensures whole { IfOk result IsWhole }
+    ensures suits { IfOk result (λ winning. SuitsMode winning.mode winning.level) }
     ensures fits { IfOk result (IsLotteryFor sizes) }
     ensures untold { TellsNoMore (S.left source.old) (S.left source.new) }
     ensures cause { FaultHasCause (S.faults source.old) (S.faults source.new) (S.left source.new) result }
 {
-    let worth = read_worth(alloc, lines, source, sizes)?;
-    let shares = read_shares(alloc, lines, source, sizes)?;
-    let lottery = read_pieces(alloc, lines, source, sizes)?;
-    Ok(Winning {
-        mode: Mode::Whole,
-        level: Level::Unasked,
-        total: i128::from(worth.total),
-        prices: worth.prices,
-        shares,
-        lottery,
-    })
+    let asked = read_asked(alloc, lines, source)?;
+    read_lottery_with(alloc, lines, source, sizes, asked)
 }

@@ -22,8 +22,8 @@ fn put_answer<K: Sink>(answer: &Answer, waiting: &mut LineBuffer, sink: &mut K) 
     }
 }
 
-/// Appends the text of an answer of the mode whole that matches these rules, a write for some hundred bytes. After
-/// `Failed` a front of it was appended. Takes no memory.
+/// Appends the text of an answer that matches these rules, and whose level is unasked exactly in the mode whole, a write for
+/// some hundred bytes. After `Failed` a front of it was appended. Takes no memory.
 pub fn write_answer<K: Sink>(rules: &Rules, answer: &Answer, sink: &mut K) -> Result<(), Io>
     requires matching { IsCertificate rules.now answer.now }
     ensures taken { AddsAll (K.taken sink.old) (K.taken sink.new) result (answer_text answer.now) }

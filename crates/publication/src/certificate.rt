@@ -46,8 +46,7 @@ fn read_parts<S: Source>(
 }
 
 /// Reads the text of rules and of the answer to them, all that the source has. Takes the memory of the rules, of the
-/// answer, of the longest line and 65,536 bytes. For now an answer is of the mode whole: one of the mode fair is refused
-/// for the form of its line. Lines are counted through both texts, from 1.
+/// answer, of the longest line and 65,536 bytes. Lines are counted through both texts, from 1.
 pub fn read_certificate<S: Source>(
     alloc: Global,
     source: &mut S,

@@ -1,16 +1,16 @@
 // Reading the text of an answer without a lottery, for the rules that it answers.
 ghost use Rattle.std.specs.Prelude.{◌≡◌, ◌≤◌, IsSome, IfOk, List, Result, Ok, codes};
 ghost use Rattle.edge_io.specs.Told.{told, TellsNoMore};
-ghost use Rattle.match_rules.specs.declared.answer.Mode.TheVariants as modes;
 ghost use Rattle.match_rules.specs.Answers.{AreMarks};
 ghost use Rattle.text_lines.specs.Reading.{Gives, FaultHasCause, cursor, due};
 ghost use Rattle.publication.specs.CutForms.{marks_of};
 ghost use Rattle.publication.specs.InfeasibleReading.{marked_at, cut_at, sums_at, infeasible_at};
 ghost use Rattle.publication.specs.Certificates.{AreMarked, IsBlockedFor};
 
+use crate::asked_forms::ModeLine;
 use crate::cut_forms::{MarksLine, SideLine};
 use edge_io::Source;
-use match_rules::{Blocked, Cut, Mode, Places, Sizes};
+use match_rules::{Blocked, Cut, Places, Sizes};
 use std::alloc::Global;
 use text_lines::{Lines, ReadError, read_amount, read_line, read_words};
 
@@ -66,8 +66,9 @@ fn read_marked<S: Source>(
     })
 }
 
+/// Reads the lines of a cut, of an answer without a lottery or of the level of one with a lottery.
 #[tactic(auto, unfolding(crate::specs::InfeasibleReading::cut_at))]
-fn read_cut<S: Source>(
+pub(crate) fn read_cut<S: Source>(
     alloc: Global,
     lines: &mut Lines,
     source: &mut S,
@@ -100,7 +101,7 @@ fn read_sums<S: Source>(alloc: Global, lines: &mut Lines, source: &mut S) -> Res
     Ok(Sums { need, room })
 }
 
-/// Reads the text of an answer of the mode whole without a lottery, behind its first line.
+/// Reads the text of an answer without a lottery, behind its first line.
 #[tactic(auto, unfolding(crate::specs::InfeasibleReading::infeasible_at))]
 pub fn read_infeasible<S: Source>(
     alloc: Global,
@@ -109,16 +110,15 @@ pub fn read_infeasible<S: Source>(
     sizes: Sizes,
 ) -> Result<Blocked, ReadError>
     ensures reads { IsSome (S.left source.new) → Gives (λ blocked. blocked) result (cursor lines.new (S.left source.new)) (infeasible_at sizes (cursor lines.old (S.left source.old))) }
-    ensures whole { IfOk result (λ blocked. blocked.mode ≡ modes.Whole) }
     ensures fits { IfOk result (IsBlockedFor sizes) }
     ensures untold { TellsNoMore (S.left source.old) (S.left source.new) }
     ensures cause { FaultHasCause (S.faults source.old) (S.faults source.new) (S.left source.new) result }
 {
-    read_words(alloc, lines, source, "mode whole")?;
+    let mode = read_line(alloc, lines, source, &mut ModeLine {}, &[])?;
     let cut = read_cut(alloc, lines, source, sizes)?;
     let sums = read_sums(alloc, lines, source)?;
     Ok(Blocked {
-        mode: Mode::Whole,
+        mode,
         cut,
         need: sums.need,
         room: sums.room,

@@ -5,6 +5,7 @@ mod answer;
 mod answer_forms;
 mod answer_text;
 mod answer_writing;
+mod asked_forms;
 mod certificate;
 mod checking;
 mod cut_forms;

@@ -2,14 +2,17 @@
 ghost use Rattle.std.specs.Prelude.{◌≤◌, ◌++◌, length, codes, decimal};
 ghost use Rattle.std.specs.Fmt.{signed_decimal};
 ghost use Rattle.edge_io.specs.Counts.{HasCause};
+ghost use Rattle.text_lines.specs.Forms.{section_text};
 ghost use Rattle.text_lines.specs.Texts.{line_of, lines_of};
 ghost use Rattle.publication.specs.AnswerForms.{piece_line, total_line};
-ghost use Rattle.publication.specs.AnswerText.{price_list_text, prices_text, worth_text, shares_text, pieces_text, lottery_text};
+ghost use Rattle.publication.specs.AnswerText.{answer_head_text, price_list_text, prices_text, worth_text, level_text, dealt_text, pieces_text, lottery_text};
+ghost use Rattle.publication.specs.AskedForms.{asked_of, score_line, threshold_line};
 ghost use Rattle.publication.specs.Waiting.{Puts};
 
+use crate::cut_writing::{put_cut, put_mode};
 use crate::waiting::{put_count, put_number, put_places, put_signed, put_text};
 use edge_io::{Io, Sink};
-use match_rules::{Piece, Prices, Winning};
+use match_rules::{Level, Piece, Prices, Winning};
 use text_lines::LineBuffer;
 
 fn put_price_lines<K: Sink>(
@@ -91,26 +94,68 @@ fn put_prices<K: Sink>(prices: &Prices, waiting: &mut LineBuffer, sink: &mut K) 
     )
 }
 
+fn put_score<K: Sink>(score: i64, waiting: &mut LineBuffer, sink: &mut K) -> Result<(), Io>
+    ensures puts { Puts (K.taken sink.old) waiting.old (K.taken sink.new) waiting.new result (line_of (score_line score)) }
+    ensures cause { HasCause (K.faults sink.old) (K.faults sink.new) result }
+{
+    put_text(b"threshold ", waiting, sink)?;
+    put_signed(i128::from(score), waiting, sink)
+}
+
+fn put_threshold<K: Sink>(level: &Level, waiting: &mut LineBuffer, sink: &mut K) -> Result<(), Io>
+    ensures puts { Puts (K.taken sink.old) waiting.old (K.taken sink.new) waiting.new result (line_of (threshold_line (asked_of level.now))) }
+    ensures cause { HasCause (K.faults sink.old) (K.faults sink.new) result }
+{
+    match level {
+        Level::Unasked => put_text(b"threshold none\n", waiting, sink),
+        Level::Free => put_text(b"threshold free\n", waiting, sink),
+        Level::At { score, .. } => put_score(*score, waiting, sink),
+    }
+}
+
+fn put_head<K: Sink>(winning: &Winning, waiting: &mut LineBuffer, sink: &mut K) -> Result<(), Io>
+    ensures puts { Puts (K.taken sink.old) waiting.old (K.taken sink.new) waiting.new result (answer_head_text winning.now.mode winning.now.level) }
+    ensures cause { HasCause (K.faults sink.old) (K.faults sink.new) result }
+{
+    put_text(b"lottery 1\n", waiting, sink)?;
+    put_mode(winning.mode, waiting, sink)?;
+    put_threshold(&winning.level, waiting, sink)
+}
+
 fn put_worth<K: Sink>(winning: &Winning, waiting: &mut LineBuffer, sink: &mut K) -> Result<(), Io>
     ensures puts { Puts (K.taken sink.old) waiting.old (K.taken sink.new) waiting.new result (worth_text winning.now.total winning.now.prices) }
     ensures cause { HasCause (K.faults sink.old) (K.faults sink.new) result }
 {
-    put_text(
-        b"lottery 1\nmode whole\nthreshold none\ntotal ",
-        waiting,
-        sink,
-    )?;
+    put_text(b"total ", waiting, sink)?;
     put_signed(winning.total, waiting, sink)?;
     put_prices(&winning.prices, waiting, sink)
 }
 
+fn put_level<K: Sink>(level: &Level, waiting: &mut LineBuffer, sink: &mut K) -> Result<(), Io>
+    ensures puts { Puts (K.taken sink.old) waiting.old (K.taken sink.new) waiting.new result (level_text level.now) }
+    ensures cause { HasCause (K.faults sink.old) (K.faults sink.new) result }
+{
+    match level {
+        Level::Unasked => put_text(b"cut none\n", waiting, sink),
+        Level::Free => put_text(b"cut none\n", waiting, sink),
+        Level::At { cut, .. } => put_cut(cut, waiting, sink),
+    }
+}
+
 fn put_shares<K: Sink>(shares: &[u32], waiting: &mut LineBuffer, sink: &mut K) -> Result<(), Io>
-    ensures puts { Puts (K.taken sink.old) waiting.old (K.taken sink.new) waiting.new result (shares_text shares.now) }
+    ensures puts { Puts (K.taken sink.old) waiting.old (K.taken sink.new) waiting.new result (section_text (codes "shares") decimal shares.now) }
     ensures cause { HasCause (K.faults sink.old) (K.faults sink.new) result }
 {
     put_count(b"shares", shares.len() as u64, waiting, sink)?;
-    put_share_lines(shares, waiting, sink)?;
-    put_text(b"cut none\n", waiting, sink)
+    put_share_lines(shares, waiting, sink)
+}
+
+fn put_dealt<K: Sink>(winning: &Winning, waiting: &mut LineBuffer, sink: &mut K) -> Result<(), Io>
+    ensures puts { Puts (K.taken sink.old) waiting.old (K.taken sink.new) waiting.new result (dealt_text winning.now.shares winning.now.level) }
+    ensures cause { HasCause (K.faults sink.old) (K.faults sink.new) result }
+{
+    put_shares(winning.shares.as_slice(), waiting, sink)?;
+    put_level(&winning.level, waiting, sink)
 }
 
 fn put_pieces<K: Sink>(pieces: &[Piece], waiting: &mut LineBuffer, sink: &mut K) -> Result<(), Io>
@@ -122,7 +167,20 @@ fn put_pieces<K: Sink>(pieces: &[Piece], waiting: &mut LineBuffer, sink: &mut K)
     put_text(b"end lottery\n", waiting, sink)
 }
 
-/// Puts the text of a lottery of the mode whole behind what waits.
+// The total, the prices, the shares and the cut.
+fn put_evidence<K: Sink>(
+    winning: &Winning,
+    waiting: &mut LineBuffer,
+    sink: &mut K,
+) -> Result<(), Io>
+    ensures puts { Puts (K.taken sink.old) waiting.old (K.taken sink.new) waiting.new result (worth_text winning.now.total winning.now.prices ++ dealt_text winning.now.shares winning.now.level) }
+    ensures cause { HasCause (K.faults sink.old) (K.faults sink.new) result }
+{
+    put_worth(winning, waiting, sink)?;
+    put_dealt(winning, waiting, sink)
+}
+
+/// Puts the text of a lottery behind what waits.
 pub(crate) fn put_lottery<K: Sink>(
     winning: &Winning,
     waiting: &mut LineBuffer,
@@ -131,7 +189,7 @@ pub(crate) fn put_lottery<K: Sink>(
     ensures puts { Puts (K.taken sink.old) waiting.old (K.taken sink.new) waiting.new result (lottery_text winning.now) }
     ensures cause { HasCause (K.faults sink.old) (K.faults sink.new) result }
 {
-    put_worth(winning, waiting, sink)?;
-    put_shares(winning.shares.as_slice(), waiting, sink)?;
+    put_head(winning, waiting, sink)?;
+    put_evidence(winning, waiting, sink)?;
     put_pieces(winning.lottery.pieces(), waiting, sink)
 }

@@ -125,9 +125,9 @@ fn rules_and_an_answer_are_read_alone(rt: HostRuntime) -> Result<(), Fail> {
         Some(ReadRefusal::Trailing)
     );
     // Lines are counted from the first of the answer.
-    let fair = "lottery 1\nmode fair\n";
+    let half = "lottery 1\nmode half\n";
     assert_eq!(rt;
-        read_answer(alloc, &rules, fair.as_bytes()).err(),
+        read_answer(alloc, &rules, half.as_bytes()).err(),
         bad_line(2, LineCode::Form)
     );
     Ok(())
