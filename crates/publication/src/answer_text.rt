@@ -58,7 +58,7 @@ fn read_asked<S: Source>(
     ensures reads { IsSome (S.left source.new) → Gives (λ asked. asked) result (cursor lines.new (S.left source.new)) (asked_at (cursor lines.old (S.left source.old))) }
     ensures fits { IfOk result IsAsked }
     ensures untold { TellsNoMore (S.left source.old) (S.left source.new) }
-    ensures cause { FaultHasCause (S.faults source.old) (S.faults source.new) result }
+    ensures cause { FaultHasCause (S.faults source.old) (S.faults source.new) (S.left source.new) result }
 {
     let mode = read_line(alloc, lines, source, &mut ModeLine {}, &[])?;
     read_threshold(alloc, lines, source, mode)
@@ -136,7 +136,7 @@ fn read_no_cut<S: Source>(
     ensures reads { IsSome (S.left source.new) → Gives (λ found. found) result (cursor lines.new (S.left source.new)) (no_cut_at level (cursor lines.old (S.left source.old))) }
     ensures same { IfOk result (λ found. found ≡ level) }
     ensures untold { TellsNoMore (S.left source.old) (S.left source.new) }
-    ensures cause { FaultHasCause (S.faults source.old) (S.faults source.new) result }
+    ensures cause { FaultHasCause (S.faults source.old) (S.faults source.new) (S.left source.new) result }
 {
     read_words(alloc, lines, source, "cut none")?;
     Ok(level)
@@ -154,7 +154,7 @@ fn read_level_at<S: Source>(
     ensures reads { IsSome (S.left source.new) → Gives (λ level. level) result (cursor lines.new (S.left source.new)) (cut_level_at sizes score (cursor lines.old (S.left source.old))) }
     ensures fits { IfOk result (LevelFits sizes) }
     ensures untold { TellsNoMore (S.left source.old) (S.left source.new) }
-    ensures cause { FaultHasCause (S.faults source.old) (S.faults source.new) result }
+    ensures cause { FaultHasCause (S.faults source.old) (S.faults source.new) (S.left source.new) result }
 {
     let cut = read_cut(alloc, lines, source, sizes)?;
     Ok(Level::At { score, cut })
@@ -172,7 +172,7 @@ fn read_level<S: Source>(
     ensures reads { IsSome (S.left source.new) → Gives (λ level. level) result (cursor lines.new (S.left source.new)) (level_at sizes asked (cursor lines.old (S.left source.old))) }
     ensures fits { IfOk result (LevelFits sizes) }
     ensures untold { TellsNoMore (S.left source.old) (S.left source.new) }
-    ensures cause { FaultHasCause (S.faults source.old) (S.faults source.new) result }
+    ensures cause { FaultHasCause (S.faults source.old) (S.faults source.new) (S.left source.new) result }
 {
     match asked {
         Asked::Whole => read_no_cut(alloc, lines, source, Level::Unasked),
@@ -194,7 +194,7 @@ fn read_dealt<S: Source>(
     ensures shares { IfOk result (λ dealt. AreSharesFor sizes dealt.shares) }
     ensures level { IfOk result (λ dealt. LevelFits sizes dealt.level) }
     ensures untold { TellsNoMore (S.left source.old) (S.left source.new) }
-    ensures cause { FaultHasCause (S.faults source.old) (S.faults source.new) result }
+    ensures cause { FaultHasCause (S.faults source.old) (S.faults source.new) (S.left source.new) result }
 {
     let shares = read_shares(alloc, lines, source, sizes.pairs)?;
     let level = read_level(alloc, lines, source, sizes, asked)?;
@@ -254,7 +254,7 @@ fn read_lottery_with<S: Source>(
     ensures mode { IfOk result (λ winning. winning.mode ≡ mode_of_level winning.level) }
     ensures fits { IfOk result (IsLotteryFor sizes) }
     ensures untold { TellsNoMore (S.left source.old) (S.left source.new) }
-    ensures cause { FaultHasCause (S.faults source.old) (S.faults source.new) result }
+    ensures cause { FaultHasCause (S.faults source.old) (S.faults source.new) (S.left source.new) result }
 {
     let worth = read_worth(alloc, lines, source, sizes)?;
     let dealt = read_dealt(alloc, lines, source, sizes, asked)?;
