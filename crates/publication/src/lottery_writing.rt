@@ -167,17 +167,14 @@ fn put_pieces<K: Sink>(pieces: &[Piece], waiting: &mut LineBuffer, sink: &mut K)
     put_text(b"end lottery\n", waiting, sink)
 }
 
-// The total, the prices, the shares and the cut.
-fn put_evidence<K: Sink>(
-    winning: &Winning,
-    waiting: &mut LineBuffer,
-    sink: &mut K,
-) -> Result<(), Io>
-    ensures puts { Puts (K.taken sink.old) waiting.old (K.taken sink.new) waiting.new result (worth_text winning.now.total winning.now.prices ++ dealt_text winning.now.shares winning.now.level) }
+// All that stands behind the threshold.
+fn put_body<K: Sink>(winning: &Winning, waiting: &mut LineBuffer, sink: &mut K) -> Result<(), Io>
+    ensures puts { Puts (K.taken sink.old) waiting.old (K.taken sink.new) waiting.new result (worth_text winning.now.total winning.now.prices ++ (dealt_text winning.now.shares winning.now.level ++ pieces_text winning.now.lottery)) }
     ensures cause { HasCause (K.faults sink.old) (K.faults sink.new) result }
 {
     put_worth(winning, waiting, sink)?;
-    put_dealt(winning, waiting, sink)
+    put_dealt(winning, waiting, sink)?;
+    put_pieces(winning.lottery.pieces(), waiting, sink)
 }
 
 /// Puts the text of a lottery behind what waits.
@@ -190,6 +187,5 @@ pub(crate) fn put_lottery<K: Sink>(
     ensures cause { HasCause (K.faults sink.old) (K.faults sink.new) result }
 {
     put_head(winning, waiting, sink)?;
-    put_evidence(winning, waiting, sink)?;
-    put_pieces(winning.lottery.pieces(), waiting, sink)
+    put_body(winning, waiting, sink)
 }

@@ -1,3 +1,6 @@
+use Rattle.std.proofs.Common.{rules}
+use Rattle.std.proofs.lemmas.Int.{to_z-of_z}
+use Rattle.std.specs.Int.{w64}
 use Rattle.text_lines.specs.Texts.{line_of}
 use Rattle.publication.specs.AskedForms.{threshold_line}
 use Rattle.publication.proofs.lottery_writing.put_threshold.Goals as goal
@@ -12,4 +15,4 @@ returns-in-Free-clause-puts g c = rw c.in-Free.is c.put_text-in-Free.ensures.put
 
 pub returns-in-At-clause-puts : goal.returns-in-At-clause-puts
 unfolding threshold_line
-returns-in-At-clause-puts g c = rw c.in-At.is c.put_score.ensures.puts
+returns-in-At-clause-puts g c = rw c.in-At.is (rw (to_z-of_z w64 c.in-At.score (search rules)) at c.put_score.ensures.puts)
