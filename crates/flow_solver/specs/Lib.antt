@@ -1,6 +1,7 @@
 pub mod Balance
 pub mod Blocking
 pub mod Coarse
+pub mod Costs
 pub mod Links
 pub mod Queue
 pub mod Search

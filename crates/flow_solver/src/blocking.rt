@@ -3,12 +3,12 @@
 // A pass goes over the nodes with an excess. From each it walks down the levels, and at a deficit pushes along the walk.
 // Each step of a push keeps the state by itself, so that nothing is proved of the walk.
 ghost use Rattle.std.specs.Prelude.{◌≡◌, ◌<◌, length, IfOk, OnOk, IfSome, All};
-ghost use Rattle.flow_solver.specs.Blocking.{AreLevels, IsTaken, IsWalk};
+ghost use Rattle.flow_solver.specs.Blocking.{AreLevels, IsWalkStep, IsWalk};
 ghost use Rattle.flow_solver.specs.Links.{IsLinkWithin};
 ghost use Rattle.residual_arcs.specs.Links.{AreLinks};
 ghost use Rattle.flow_solver.specs.State.{IsState, AreCalm};
 
-use crate::levels::{FAR, is_even, levels_of};
+use crate::levels::{NO_LEVEL, is_admissible, levels_of};
 use crate::links::link_of;
 use crate::path::deficit_of;
 use crate::push::push_over;
@@ -23,7 +23,7 @@ const PASSES: u32 = 64;
 
 /// A step that the walk took from a node.
 #[derive(Clone, Copy)]
-pub struct Taken {
+pub struct WalkStep {
     pub node: u32,
     pub step: Step,
 }
@@ -33,7 +33,7 @@ pub struct Taken {
 pub struct Walk {
     pub levels: Vec<u32>,
     pub next: Vec<usize>,
-    pub taken: Vec<Taken>,
+    pub steps: Vec<WalkStep>,
 }
 
 // Whether one level is right below the other.
@@ -49,12 +49,12 @@ fn leads_down(net: &Network, state: &State, walk: &Walk, node: u32, link: Link) 
     requires link { IsLinkWithin net.now link }
 {
     is_below(walk.levels[link.to as usize], walk.levels[node as usize])
-        && is_even(net, state, node, link)
+        && is_admissible(net, state, node, link)
         && left_at(net, state, link.step) > 0
 }
 
 // The link of the node over which the walk goes on.
-fn way_down(net: &Network, links: &Links, state: &State, walk: &mut Walk, node: u32) -> Option<Link>
+fn descending_link(net: &Network, links: &Links, state: &State, walk: &mut Walk, node: u32) -> Option<Link>
     requires kept { IsState net.now state.now.flow.items state.now.excess.items state.now.potentials.items }
     requires links { AreLinks net.now links.now }
     requires walk { IsWalk net.now walk.old }
@@ -82,9 +82,9 @@ fn step_back(net: &Network, walk: &mut Walk, node: u32) -> Option<u32>
     ensures walk { IsWalk net.now walk.new }
     ensures node { IfSome result (λ back. back < net.now.nodes) }
 {
-    walk.levels[node as usize] = FAR;
-    match walk.taken.pop() {
-        Some(taken) => Some(taken.node),
+    walk.levels[node as usize] = NO_LEVEL;
+    match walk.steps.pop() {
+        Some(back) => Some(back.node),
         None => None,
     }
 }
@@ -104,9 +104,9 @@ fn go_on(
     ensures walk { OnOk result (IsWalk net.now walk.new) }
     ensures node { IfOk result (λ next. IfSome next (λ node. node < net.now.nodes)) }
 {
-    match way_down(net, links, state, walk, node) {
+    match descending_link(net, links, state, walk, node) {
         Some(link) => {
-            walk.taken.push(Taken {
+            walk.steps.push(WalkStep {
                 node,
                 step: link.step,
             })?;
@@ -122,8 +122,8 @@ fn width_along(net: &Network, state: &State, walk: &Walk, most: u64) -> u64
     requires walk { IsWalk net.now walk.now }
 {
     let mut width = most;
-    for place in 0..walk.taken.len() {
-        width = width.min(left_at(net, state, walk.taken[place].step));
+    for place in 0..walk.steps.len() {
+        width = width.min(left_at(net, state, walk.steps[place].step));
     }
     width
 }
@@ -136,8 +136,8 @@ fn push_along(net: &Network, state: &mut State, walk: &Walk, amount: u64)
     ensures kept { IsState net.now state.new.flow.items state.new.excess.items state.new.potentials.items }
     ensures calm { AreCalm net.now state.new.excess.items state.new.potentials.items }
 {
-    for place in 0..walk.taken.len() {
-        push_over(net, state, walk.taken[place].step, amount);
+    for place in 0..walk.steps.len() {
+        push_over(net, state, walk.steps[place].step, amount);
     }
 }
 
@@ -194,11 +194,11 @@ fn walk_from(
 {
     let mut arrived = false;
     let mut node = source;
-    walk.taken.clear();
+    walk.steps.clear();
     for _move in 0..2 * (net.nodes() as usize + net.arcs().len()) {
         let pushed = push_to(net, state, walk, source, node);
         if pushed {
-            walk.taken.clear();
+            walk.steps.clear();
             arrived = true;
             node = source;
         }
@@ -223,7 +223,7 @@ fn walk_at(alloc: Global, net: &Network, links: &Links, state: &State) -> Result
     Ok(Walk {
         levels: levels.each,
         next: links.starts.as_slice().to_vec(alloc)?,
-        taken: Vec::new(alloc),
+        steps: Vec::new(alloc),
     })
 }
 

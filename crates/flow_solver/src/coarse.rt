@@ -3,9 +3,10 @@
 // Excesses are pushed over links with a negative reduced cost, and a node that has no such link is relabelled, to a
 // potential lower by epsilon than it must be to have one. Nothing is proved of the amounts: those that would be too large
 // stop at their bounds.
-ghost use Rattle.std.specs.Prelude.{◌≡◌, ◌<◌, length, ℕ, IfOk, OnOk, All};
+ghost use Rattle.std.specs.Prelude.{◌≡◌, ◌<◌, length, ℕ, pos, neg_ℤ, ◌≤ℤ◌, unsigned_abs, IfOk, OnOk, All};
 ghost use Rattle.bounded_network.specs.Network.{potential_at};
 ghost use Rattle.flow_solver.specs.Coarse.{IsCoarse};
+ghost use Rattle.flow_solver.specs.Costs.{IsGreatestCost};
 ghost use Rattle.residual_arcs.specs.Links.{AreLinks};
 ghost use Rattle.flow_solver.specs.State.{IsWithin};
 
@@ -29,12 +30,21 @@ pub struct Coarse {
     pub relabels: usize,
 }
 
+// The magnitude of a cost.
+fn magnitude(cost: i64) -> i64
+    requires low { neg_ℤ MAX_COST ≤ℤ cost }
+    ensures { result ≡ pos (unsigned_abs cost) }
+{
+    cost.max(-cost)
+}
+
 /// The greatest magnitude of a cost.
-pub fn greatest_cost(net: &Network) -> i64 {
+pub fn greatest_cost(net: &Network) -> i64
+    ensures { IsGreatestCost net.now result }
+{
     let mut greatest = 0;
     for place in 0..arc_count(net) {
-        let cost = arc_of(net, place).cost;
-        greatest = cost.max(-cost).max(greatest);
+        greatest = magnitude(arc_of(net, place).cost).max(greatest);
     }
     greatest
 }

@@ -12,7 +12,7 @@ use residual_arcs::{Link, Links, Step};
 use std::alloc::{AllocError, Global};
 
 /// The level of a node that is not reached.
-pub const FAR: u32 = u32::MAX;
+pub const NO_LEVEL: u32 = u32::MAX;
 
 /// How many steps of reduced cost 0 lead from each node to a deficit, and the nodes that are reached, the nearest first.
 #[derive(Drop)]
@@ -22,7 +22,7 @@ pub struct Levels {
 }
 
 /// Whether the reduced cost of the node's link is 0.
-pub fn is_even(net: &Network, state: &State, node: u32, link: Link) -> bool
+pub fn is_admissible(net: &Network, state: &State, node: u32, link: Link) -> bool
     requires kept { IsState net.now state.now.flow.items state.now.excess.items state.now.potentials.items }
     requires node_in { node < net.now.nodes }
     requires link { IsLinkWithin net.now link }
@@ -57,8 +57,8 @@ fn reach_by(
     requires link { IsLinkWithin net.now link }
     ensures { OnOk result (AreLevels net.now levels.new) }
 {
-    let seen = levels.each[link.to as usize] != FAR;
-    if seen || !is_even(net, state, node, link) {
+    let seen = levels.each[link.to as usize] != NO_LEVEL;
+    if seen || !is_admissible(net, state, node, link) {
         return Ok(());
     }
     let back = Step {
@@ -99,7 +99,7 @@ fn deficits(alloc: Global, net: &Network, state: &State) -> Result<Levels, Alloc
     ensures { IfOk result (λ levels. AreLevels net.now levels) }
 {
     let mut levels = Levels {
-        each: vec![in alloc; FAR; net.nodes() as usize]?,
+        each: vec![in alloc; NO_LEVEL; net.nodes() as usize]?,
         reached: Vec::new(alloc),
     };
     for node in 0..net.nodes() {

@@ -1,5 +1,5 @@
 use Rattle.flow_solver.specs.Blocking.{IsWalk}
-use Rattle.flow_solver.proofs.blocking.way_down.Given as goal
+use Rattle.flow_solver.proofs.blocking.descending_link.Given as goal
 
 abbrev pub invariant-loop-place : goal.invariant-loop-place
 invariant-loop-place l = IsWalk l.net l.walk
