@@ -1,5 +1,5 @@
 -- The costs of a network: the greatest magnitude, and the unit that divides them all.
-use Rattle.std.specs.Prelude.{ℕ, ◌≡◌, ◌<◌, ◌≤ℤ◌, ◌⊎◌, length, ℤ, pos, unsigned_abs}
+use Rattle.std.specs.Prelude.{ℕ, ◌≡◌, ◌<◌, ◌≤◌, ◌⊎◌, length, unsigned_abs}
 use Prim.Native.Nat.{◌∣◌}
 use Rattle.bounded_network.specs.Network.{NetworkValue, arc_at}
 
@@ -8,9 +8,9 @@ abbrev pub magnitude_at : NetworkValue → ℕ → ℕ
 magnitude_at net a = unsigned_abs (arc_at net a).cost
 
 -- no cost is of a greater magnitude, and one has this one, unless it is 0
-pub record IsGreatestCost (net : NetworkValue) (greatest : ℤ) : Type 0 where
-  pub most : (a : ℕ) → a < length net.arcs → pos (magnitude_at net a) ≤ℤ greatest
-  pub reached : (greatest ≡ pos 0) ⊎ ((a : ℕ) × (a < length net.arcs) × (greatest ≡ pos (magnitude_at net a)))
+pub record IsGreatestCost (net : NetworkValue) (greatest : ℕ) : Type 0 where
+  pub most : (a : ℕ) → a < length net.arcs → magnitude_at net a ≤ greatest
+  pub reached : (greatest ≡ 0) ⊎ ((a : ℕ) × (a < length net.arcs) × (greatest ≡ magnitude_at net a))
 
 -- it divides the magnitude of each cost, and whatever divides them all divides it
 pub record IsUnit (net : NetworkValue) (unit : ℕ) : Type 0 where

@@ -1,5 +1,6 @@
 pub mod Balance
 pub mod Blocking
+pub mod Calm
 pub mod Coarse
 pub mod Costs
 pub mod Links

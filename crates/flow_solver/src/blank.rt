@@ -45,20 +45,17 @@ pub fn blank(alloc: Global, net: &Network) -> Result<Search, AllocError>
 
 /// Begins a search: its source alone is settled.
 pub fn set_out(
-    net: &Network,
-    state: &State,
+    state: &State<'_>,
     search: &mut Search,
     source: u32,
 ) -> Result<(), AllocError>
-    requires kept { IsState net.now state.now.flow.items state.now.excess.items state.now.potentials.items }
-    requires blank { IsBlank net.now search.old }
-    requires source_in { source < net.now.nodes }
+    requires blank { IsBlank state.now.network.now search.old }
+    requires source_in { source < state.now.network.now.nodes }
     requires rich { pos 0 <ℤ excess_at state.now.excess.items source }
-    ensures search { OnOk result (IsSearch net.now state.now search.new) }
+    ensures search { OnOk result (IsSearch state.now search.new) }
     ensures source { OnOk result (search.new.source ≡ source) }
     ensures node { OnOk result (search.new.node ≡ source) }
 {
-    let _nodes = net.nodes();
     search.tree.push(Reach {
         node: source,
         from: 0,

@@ -3,7 +3,7 @@
 // Excesses are pushed over links with a negative reduced cost, and a node that has no such link is relabelled, to a
 // potential lower by epsilon than it must be to have one. Nothing is proved of the amounts: those that would be too large
 // stop at their bounds.
-ghost use Rattle.std.specs.Prelude.{◌≡◌, ◌<◌, length, ℕ, pos, neg_ℤ, ◌≤ℤ◌, unsigned_abs, IfOk, OnOk, All};
+ghost use Rattle.std.specs.Prelude.{◌≡◌, ◌<◌, length, ℕ, IfOk, OnOk, All};
 ghost use Rattle.bounded_network.specs.Network.{potential_at};
 ghost use Rattle.flow_solver.specs.Coarse.{IsCoarse};
 ghost use Rattle.flow_solver.specs.Costs.{IsGreatestCost};
@@ -30,21 +30,13 @@ pub struct Coarse {
     pub relabels: usize,
 }
 
-// The magnitude of a cost.
-fn magnitude(cost: i64) -> i64
-    requires low { neg_ℤ MAX_COST ≤ℤ cost }
-    ensures { result ≡ pos (unsigned_abs cost) }
-{
-    cost.max(-cost)
-}
-
 /// The greatest magnitude of a cost.
-pub fn greatest_cost(net: &Network) -> i64
+pub fn greatest_cost(net: &Network) -> u64
     ensures { IsGreatestCost net.now result }
 {
-    let mut greatest = 0;
+    let mut greatest: u64 = 0;
     for place in 0..arc_count(net) {
-        greatest = magnitude(arc_of(net, place).cost).max(greatest);
+        greatest = arc_of(net, place).cost.unsigned_abs().max(greatest);
     }
     greatest
 }
