@@ -80,6 +80,7 @@ pub fn start_at<'a>(
     ensures potentials { IfOk result (λ state. state.potentials.items ≡ potentials.items) }
     ensures calm { IfOk result IsCalm }
 {
+    let _nodes = net.nodes();
     let flow = first_flow(alloc, net, &potentials)?;
     let excess = first_excess(alloc, net, &flow)?;
     Ok(State {
