@@ -5,7 +5,7 @@ use Rattle.std.specs.declared.cmp.Reverse.{Reverse}
 use Rattle.std.proofs.lemmas.Int.{ints}
 use Rattle.std.proofs.lemmas.Bool.{cases_Bool, cases_eq}
 use Rattle.std.proofs.lemmas.List.{length-set}
-use Rattle.bounded_network.specs.Network.{NetworkValue, IsNetwork, arc_at}
+use Rattle.bounded_network.specs.Network.{arc_at}
 use Rattle.flow_solver.specs.declared.state.State.{State}
 use Rattle.residual_arcs.specs.declared.step.Step.{Step}
 use Rattle.flow_solver.specs.declared.search.Reach.{Reach}

@@ -5,14 +5,14 @@ use Rattle.std.specs.declared.cmp.Reverse.{Reverse}
 use Rattle.std.proofs.lemmas.Int.{ints}
 use Rattle.std.proofs.lemmas.Bool.{cases_eq, both_ways}
 use Rattle.std.proofs.lemmas.List.{length-set}
-use Rattle.bounded_network.specs.Network.{NetworkValue, IsArc, arc_at}
+use Rattle.bounded_network.specs.Network.{IsArc, arc_at}
 use Rattle.bounded_network.specs.declared.network.Arc.{Arc}
 use Rattle.flow_solver.specs.declared.state.State.{State}
 use Rattle.flow_solver.specs.declared.search.Reach.{Reach}
 use Rattle.flow_solver.specs.Queue.{Waits}
 use Rattle.residual_arcs.specs.Step.{end_of, step_cost, left_on}
 use Rattle.flow_solver.specs.Step.{step_reduced}
-use Rattle.flow_solver.specs.State.{IsWithin, IsState}
+use Rattle.flow_solver.specs.State.{IsWithin}
 use Rattle.flow_solver.specs.Search.{unreached, distance_at, reach_at, is_settled, IsReach, IsRelaxedFrom, IsTree, IsSearchOf}
 
 -- a step with room has no negative reduced cost

@@ -6,7 +6,7 @@ use Rattle.std.proofs.lemmas.Int.{ints}
 use Rattle.std.proofs.lemmas.Bool.{cases_eq, cases_lt, both_ways}
 use Rattle.std.proofs.lemmas.List.{length-set, get_or_push, get_or_append_left, length_push}
 use Rattle.match_rules.specs.Sums.{count_below, when}
-use Rattle.bounded_network.specs.Network.{NetworkValue, IsNetwork, arc_at, potential_at}
+use Rattle.bounded_network.specs.Network.{arc_at, potential_at}
 use Rattle.bounded_network.proofs.Sums.{count_below-at_most}
 use Rattle.flow_solver.specs.declared.state.State.{State}
 use Rattle.flow_solver.specs.declared.search.Reach.{Reach}

@@ -1,6 +1,6 @@
 -- A path along the tree, from its root to its last node.
 use Rattle.std.specs.Prelude.{ℕ, ◌≡◌, ◌≢◌, ◌-◌, ◌<◌, ◌≤◌, List, length, slice_index, pos}
-use Rattle.bounded_network.specs.Network.{NetworkValue, arc_at}
+use Rattle.bounded_network.specs.Network.{arc_at}
 use Rattle.flow_solver.specs.declared.state.State.{State}
 use Rattle.flow_solver.specs.declared.search.Reach.{Reach}
 use Rattle.flow_solver.specs.Search.{reach_at}

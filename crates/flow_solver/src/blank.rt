@@ -44,11 +44,7 @@ pub fn blank(alloc: Global, net: &Network) -> Result<Search, AllocError>
 }
 
 /// Begins a search: its source alone is settled.
-pub fn set_out(
-    state: &State<'_>,
-    search: &mut Search,
-    source: u32,
-) -> Result<(), AllocError>
+pub fn set_out(state: &State<'_>, search: &mut Search, source: u32) -> Result<(), AllocError>
     requires blank { IsBlank state.now.network.now search.old }
     requires source_in { source < state.now.network.now.nodes }
     requires rich { pos 0 <ℤ excess_at state.now.excess.items source }

@@ -232,11 +232,7 @@ fn pass(alloc: Global, links: &Links, state: &mut State<'_>) -> Result<bool, All
 }
 
 /// Carries away what steps of reduced cost 0 can, pass after pass, until one pushes nothing.
-pub fn block(
-    alloc: Global,
-    links: &Links,
-    state: &mut State<'_>,
-) -> Result<(), AllocError>
+pub fn block(alloc: Global, links: &Links, state: &mut State<'_>) -> Result<(), AllocError>
     requires calm { IsCalm state.old }
     requires links { AreLinks state.old.network.now links.now }
     ensures network { state.new.network.now ≡ state.old.network.now }

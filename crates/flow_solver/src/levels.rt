@@ -45,12 +45,7 @@ fn reach(net: &Network, levels: &mut Levels, node: u32, level: u32) -> Result<()
 }
 
 // Reaches the node that the link leads to, if a step of reduced cost 0 with room comes from there.
-fn reach_by(
-    state: &State<'_>,
-    levels: &mut Levels,
-    node: u32,
-    link: Link,
-) -> Result<(), AllocError>
+fn reach_by(state: &State<'_>, levels: &mut Levels, node: u32, link: Link) -> Result<(), AllocError>
     requires levels { AreLevels state.now.network.now levels.old }
     requires node_in { node < state.now.network.now.nodes }
     requires link { IsLinkWithin state.now.network.now link }
@@ -107,11 +102,7 @@ fn deficits(alloc: Global, state: &State<'_>) -> Result<Levels, AllocError>
 }
 
 /// The levels of all nodes. Each is reached once, so that as many rounds as there are nodes are enough.
-pub fn levels_of(
-    alloc: Global,
-    links: &Links,
-    state: &State<'_>,
-) -> Result<Levels, AllocError>
+pub fn levels_of(alloc: Global, links: &Links, state: &State<'_>) -> Result<Levels, AllocError>
     requires links { AreLinks state.now.network.now links.now }
     ensures { IfOk result (λ levels. AreLevels state.now.network.now levels) }
 {

@@ -153,11 +153,7 @@ fn relax(state: &State<'_>, search: &mut Search, link: Link) -> Result<(), Alloc
 }
 
 // Relaxes all steps from the node that was settled last.
-fn relax_all(
-    links: &Links,
-    state: &State<'_>,
-    search: &mut Search,
-) -> Result<(), AllocError>
+fn relax_all(links: &Links, state: &State<'_>, search: &mut Search) -> Result<(), AllocError>
     requires links { AreLinks state.now.network.now links.now }
     requires search { IsSearch state.now search.old }
     ensures same { OnOk result (SameTree search.old search.new) }
@@ -230,11 +226,7 @@ pub fn amount_of(excess: i128) -> u64
 }
 
 /// Settles nodes until one has a deficit, which is then settled last and gives `true`, or until nothing waits.
-pub fn run(
-    links: &Links,
-    state: &State<'_>,
-    search: &mut Search,
-) -> Result<bool, AllocError>
+pub fn run(links: &Links, state: &State<'_>, search: &mut Search) -> Result<bool, AllocError>
     requires links { AreLinks state.now.network.now links.now }
     requires search { IsSearch state.now search.old }
     requires calm { pos 0 ≤ℤ excess_at state.now.excess.items search.old.node }

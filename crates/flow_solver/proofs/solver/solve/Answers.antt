@@ -1,5 +1,5 @@
 use Rattle.std.proofs.Common.{◌<◌, subst}
-use Rattle.bounded_network.specs.Network.{NetworkValue, IsCirculation, AreOptimal, IsNetwork}
+use Rattle.bounded_network.specs.Network.{NetworkValue, IsCirculation, IsNetwork}
 use Rattle.bounded_network.proofs.Laws.{cheapest-at_optimal, none-at_violated}
 use Rattle.flow_solver.specs.Balance.{IsBalanced}
 use Rattle.flow_solver.specs.State.{IsState}
