@@ -4,7 +4,7 @@ ghost use Rattle.std.specs.BinaryHeap.{heap_items};
 ghost use Rattle.bounded_network.specs.Network.{IsNetwork};
 ghost use Rattle.flow_solver.specs.Queue.{Waits};
 ghost use Rattle.flow_solver.specs.Search.{IsBlank, IsClearable, IsCleared, IsSearch, reach_at};
-ghost use Rattle.flow_solver.specs.State.{IsState, excess_at};
+ghost use Rattle.flow_solver.specs.State.{excess_at};
 
 use crate::queue::{self, Queue, empty, waiting};
 use crate::search::{Reach, Search, UNREACHED, width_of};

@@ -8,7 +8,6 @@ ghost use Rattle.flow_solver.specs.Calm.{IsCalm};
 
 use crate::search::{Reach, Search, width_of};
 use crate::state::{State, carry};
-use bounded_network::Network;
 
 // Carries the amount along the tree from its root to its last node.
 fn carry_along(state: &mut State<'_>, tree: &[Reach], amount: u64)

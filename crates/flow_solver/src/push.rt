@@ -7,7 +7,6 @@ ghost use Rattle.flow_solver.specs.Step.{step_reduced};
 
 use crate::search::amount_of;
 use crate::state::{State, carry, left_at};
-use bounded_network::Network;
 use residual_arcs::{Step, arc_of, cost, end, start};
 
 /// Whether a step at the cost, between nodes at the potentials, has reduced cost 0.

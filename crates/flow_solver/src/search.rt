@@ -5,14 +5,13 @@ ghost use Rattle.std.specs.BinaryHeap.{heap_items, heap_len};
 ghost use Rattle.bounded_network.specs.Network.{NetworkValue, IsNetwork, arc_at, potential_at};
 ghost use Rattle.residual_arcs.specs.Links.{AreLinks, IsLink, start_at};
 ghost use Rattle.flow_solver.specs.Queue.{Waits};
-ghost use Rattle.flow_solver.specs.State.{IsWithin, IsState, excess_at};
+ghost use Rattle.flow_solver.specs.State.{IsWithin, excess_at};
 ghost use Rattle.residual_arcs.specs.Step.{start_of, end_of, step_cost, left_on};
 ghost use Rattle.flow_solver.specs.Step.{step_reduced};
 ghost use Rattle.flow_solver.specs.Search.{IsSearch, IsRelaxed, IsRelaxedFrom, Relaxes, IsReach, SameTree, IsFound, IsClosed, distance_at, reach_at, is_settled};
 
 use crate::queue::{Queue, pop, push};
 use crate::state::{State, left_at};
-use bounded_network::Network;
 use residual_arcs::{Link, Links, Step};
 use std::alloc::AllocError;
 
