@@ -2,7 +2,7 @@
 use Rattle.std.specs.Prelude.{◌≡◌, ◌+◌, ◌<◌, length, All}
 use Rattle.bounded_network.specs.Network.{NetworkValue}
 use Rattle.flow_solver.specs.declared.levels.Levels.{Levels}
-use Rattle.flow_solver.specs.declared.blocking.Taken.{Taken}
+use Rattle.flow_solver.specs.declared.blocking.WalkStep.{WalkStep}
 use Rattle.flow_solver.specs.declared.blocking.Walk.{Walk}
 
 -- a level for each node, and nodes that are reached
@@ -11,12 +11,12 @@ pub record AreLevels (net : NetworkValue) (levels : Levels) : Type 0 where
   pub reached : All (λ v. v < net.nodes) levels.reached.items
 
 -- it names a node and an arc
-pub record IsTaken (net : NetworkValue) (taken : Taken) : Type 0 where
-  pub node : taken.node < net.nodes
-  pub arc : taken.step.arc < length net.arcs
+pub record IsWalkStep (net : NetworkValue) (step : WalkStep) : Type 0 where
+  pub node : step.node < net.nodes
+  pub arc : step.step.arc < length net.arcs
 
 -- a level and a next link for each node, and steps
 pub record IsWalk (net : NetworkValue) (walk : Walk) : Type 0 where
   pub levels_long : length walk.levels.items ≡ net.nodes
   pub next_long : length walk.next.items ≡ net.nodes + 1
-  pub taken : All (λ taken. IsTaken net taken) walk.taken.items
+  pub steps : All (λ step. IsWalkStep net step) walk.steps.items
