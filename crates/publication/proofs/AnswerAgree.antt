@@ -1,6 +1,6 @@
 -- The lines of the text of an answer are read where no code applies to them, and else refused with the first that does.
-use Rattle.std.proofs.Common.{◌≡◌, ℕ, suc, Bool, true, false, leb, ltb, eqb, List, [], ◌∷◌, length, map, drop, Option, None, Result, Ok, ℤ, refl, arith}
-use Rattle.std.specs.Prelude.{◌&&◌, ◌||◌, codes, if◌then◌else◌}
+use Rattle.std.proofs.Common.{◌≡◌, ℕ, suc, Bool, false, leb, ltb, eqb, List, [], ◌∷◌, map, drop, Option, None, refl, arith}
+use Rattle.std.specs.Prelude.{◌&&◌, codes, if◌then◌else◌}
 use Rattle.std.specs.List.{list_all}
 use Rattle.std.specs.Str.{bytes_eq}
 use Rattle.std.proofs.lemmas.Bool.{ne_eqb, le-leb}
@@ -9,15 +9,15 @@ use Rattle.match_rules.specs.declared.answer.Side.TheVariants.{Into, OutOf}
 use Rattle.match_rules.specs.declared.lottery.Piece.{Piece}
 use Rattle.match_rules.specs.declared.rules.TheConstants.{RULES_TICKETS}
 use Rattle.match_rules.specs.Answers.{most_price, most_total}
-use Rattle.text_lines.specs.declared.fault.LineCode.TheVariants.{Form, Number, Range, Order}
+use Rattle.text_lines.specs.declared.fault.LineCode.TheVariants.{Form, Number, Range}
 use Rattle.text_lines.specs.Fields.{fields, one_of, two_of}
-use Rattle.text_lines.specs.Forms.{in_form, needs, integer_from, number_from}
+use Rattle.text_lines.specs.Forms.{in_form, integer_from, number_from}
 use Rattle.text_lines.specs.LineTests.{first_of, part, unless}
 use Rattle.text_lines.specs.Numbers.{is_canonical, is_canonical_signed, value, signed_value, size}
 use Rattle.text_lines.specs.Reading.{◌>>=◌}
 use Rattle.text_lines.proofs.FaultLaws.{Agrees, IsAgreed, by_test}
 use Rattle.text_lines.proofs.FormFaults.{agrees_needs, many_parts}
-use Rattle.publication.specs.AnswerForms.{kind_of, price_of, share_of, total_of, total_in, piece_of, piece_in, piece_with, ascends, in_range, stands_behind}
+use Rattle.publication.specs.AnswerForms.{kind_of, price_of, share_of, total_of, total_in, piece_of, piece_in, ascends, in_range, stands_behind}
 use Rattle.publication.specs.AnswerTests.{kind_tests, kind_from, side_tests, total_tests, total_parts, price_tests, price_parts, share_tests, share_parts, piece_tests, piece_parts, piece_from, marks_tests, marks_parts}
 use Rattle.match_rules.specs.declared.answer.Mode.{Mode}
 use Rattle.match_rules.specs.declared.answer.Mode.TheVariants.{Whole, Fair}
@@ -26,7 +26,7 @@ use Rattle.text_lines.specs.declared.fault.LineCode.{LineCode}
 use Rattle.publication.specs.declared.asked_forms.Asked.TheVariants as asked
 use Rattle.publication.specs.AnswerTests.{mode_tests, mode_from, has_score, threshold_tests, threshold_from}
 use Rattle.publication.specs.AskedForms.{mode_of, score_in, score_of, threshold_of}
-use Rattle.publication.specs.CutForms.{side_of, marks_of, marks_in, marks_from, marks_with}
+use Rattle.publication.specs.CutForms.{side_of, marks_of, marks_in}
 
 -- ---- one word or another
 

@@ -1,12 +1,10 @@
 -- Reading the text of an answer goes along with what is due behind its lines.
-use Rattle.std.proofs.Common.{◌≡◌, ℕ, ℤ, List, [], ◌∷◌, Result, Ok, map, drop}
+use Rattle.std.proofs.Common.{ℕ, ℤ, List, Result, Ok, map, drop}
 use Rattle.std.specs.Prelude.{codes}
-use Rattle.match_rules.specs.declared.answer.Answer.{Answer}
 use Rattle.match_rules.specs.declared.answer.Answer.TheVariants.{Lottery, Infeasible}
 use Rattle.match_rules.specs.declared.answer.Level.{Level}
 use Rattle.match_rules.specs.declared.answer.Level.TheVariants.{Unasked, Free, At}
 use Rattle.match_rules.specs.declared.answer.Prices.{Prices}
-use Rattle.match_rules.specs.declared.lottery.Piece.{Piece}
 use Rattle.match_rules.specs.declared.rules.TheConstants.{MOST_TICKETS}
 use Rattle.match_rules.specs.declared.sizes.Sizes.{Sizes}
 use Rattle.text_lines.specs.declared.fault.TextFault.{TextFault}

@@ -1,5 +1,5 @@
 -- The lines of the mode and of the threshold: what is read is spelled so, and what is spelled so is read again.
-use Rattle.std.proofs.Common.{◌≡◌, ℕ, ◌^◌, ◌<◌, ◌≤◌, ◌⊎◌, inl, inr, Bool, true, false, cond, List, [], ◌∷◌, length, Result, Ok, Err, ℤ, refl, sym, ap, ◌∙◌, arith, lit<, lit≤}
+use Rattle.std.proofs.Common.{◌≡◌, ℕ, ◌^◌, ◌<◌, ◌⊎◌, inl, inr, Bool, true, false, cond, List, [], ◌∷◌, Result, Ok, Err, ℤ, refl, sym, ap, ◌∙◌, arith, lit<, lit≤}
 use Rattle.std.specs.Prelude.{codes}
 use Rattle.std.specs.Fmt.{signed_decimal}
 use Rattle.std.specs.Str.{bytes_eq}
@@ -13,14 +13,14 @@ use Rattle.match_rules.specs.Rules.{most_score}
 use Rattle.text_lines.specs.declared.fault.LineCode.{LineCode}
 use Rattle.text_lines.specs.declared.fault.LineCode.TheVariants.{Form}
 use Rattle.text_lines.specs.Fields.{fields, with_spaces, two_of}
-use Rattle.text_lines.specs.Forms.{in_form, needs, integer_from}
+use Rattle.text_lines.specs.Forms.{in_form, integer_from}
 use Rattle.text_lines.specs.Reading.{◌>>=◌}
-use Rattle.text_lines.proofs.FormLaws.{needs_ok, two_fields_spell, same_words, words_same}
+use Rattle.text_lines.proofs.FormLaws.{needs_ok, two_fields_spell, same_words}
 use Rattle.text_lines.proofs.TextLaws.{Spells, IsLine, bind_ok, ok_is}
 use Rattle.text_lines.proofs.WordLaws.{IsWord, ascii_word, ascii_line, fields-with_spaces, words_line, signed_word, signed_short, length-with_spaces_one, length-with_spaces_more}
 use Rattle.publication.specs.declared.asked_forms.Asked.{Asked}
 use Rattle.publication.specs.declared.asked_forms.Asked.TheVariants as asked
-use Rattle.publication.specs.AskedForms.{mode_of, mode_line, or_form, score_in, score_of, threshold_of, score_line, threshold_line, IsAsked, asked_of, mode_asked, mode_of_level}
+use Rattle.publication.specs.AskedForms.{mode_of, mode_line, or_form, score_in, score_of, threshold_of, score_line, threshold_line, IsAsked, mode_asked, mode_of_level}
 use Rattle.publication.proofs.AnswerLaws.{mag_within, within_takes, within_again}
 use Rattle.publication.proofs.CutLaws.{two_take}
 

@@ -3,7 +3,7 @@ use Rattle.std.proofs.Common.{◌≡◌, ℕ, ◌<◌, ◌≤◌, ◌*◌, ◌==
 use Rattle.std.proofs.lemmas.Bool.Decides.{Decides-int_eq, Decides-eqb, Decides-ltb}
 use Rattle.std.proofs.lemmas.List.{get_or_default}
 use Rattle.std.proofs.lemmas.List.Folds.{Any-from_list_any, list_any_at}
-use Rattle.std.specs.Prelude.{ℤ, ◌<ℤ◌, Option, Some, None, nat_lt, slice_index, slice_index_or}
+use Rattle.std.specs.Prelude.{ℤ, ◌<ℤ◌, Some, None, nat_lt, slice_index}
 use Rattle.std.specs.List.{list_any}
 use Rattle.std.specs.Ordering.{int_eq}
 use Rattle.match_rules.specs.declared.answer.Cut.{Cut}
@@ -16,7 +16,6 @@ use Rattle.match_rules.specs.declared.answer.Sieve.TheVariants.{All as EveryPair
 use Rattle.match_rules.specs.declared.breaks.Break.{Break}
 use Rattle.match_rules.specs.declared.breaks.Break.TheVariants.{Below, NoSuchScore, Above}
 use Rattle.match_rules.specs.declared.lottery.Piece.{Piece}
-use Rattle.match_rules.specs.declared.rules.RulePair.{RulePair}
 use Rattle.match_rules.specs.Answers.{CutIsViolated, LevelIsRight, SuitsMode}
 use Rattle.match_rules.specs.Assignments.{Fits, cap_under, keeps, tickets, times}
 use Rattle.match_rules.specs.Breaks.{unless}
@@ -24,11 +23,11 @@ use Rattle.match_rules.specs.Evidence.{need, room, Violated}
 use Rattle.match_rules.specs.First.{first_below}
 use Rattle.match_rules.specs.Rules.{RulesValue, AreRules, is_locked, no_pair, pair_at}
 use Rattle.match_rules.specs.SharesFit.{HasShares}
-use Rattle.match_rules.specs.Thresholds.{CanFit, CanFitLocked, HasLevel, IsOpenScore, IsThreshold, sieve_of}
+use Rattle.match_rules.specs.Thresholds.{CanFit, CanFitLocked, IsOpenScore, sieve_of}
 use Rattle.match_rules.proofs.Firsts.{both_none, none_both, first_below-all, first_below-at}
 use Rattle.match_rules.proofs.SieveLaws.{finer-greater, fits-more, times-dropped}
 use Rattle.dual_check.proofs.CutLaws.{none_fits_at_violated}
-use Rattle.publication.specs.Checks.{lets_share, may_share, below_break, is_open_at, score_break, above_break, at_break, level_break, threshold_break}
+use Rattle.publication.specs.Checks.{may_share, below_break, is_open_at, score_break, above_break, level_break}
 use Rattle.publication.proofs.LockedAlone.{others-none}
 
 -- no break comes exactly where the test holds

@@ -1,12 +1,12 @@
 -- Where some lottery fits with the locked pairs alone, no lottery that fits has a ticket for another pair: each paper has
 -- all its reviewers by locked pairs.
-use Rattle.std.proofs.Common.{◌≡◌, ℕ, zero, suc, ◌+◌, ◌*◌, ◌<◌, ◌≤◌, Bool, true, false, ◌==◌, eqb, cond, List, [], ◌∷◌, length, All, count_by, refl, sym, ap, ◌∙◌, arith, inl, inr}
+use Rattle.std.proofs.Common.{◌≡◌, ℕ, zero, suc, ◌+◌, ◌*◌, ◌<◌, ◌≤◌, Bool, true, false, ◌==◌, eqb, cond, List, [], ◌∷◌, length, All, count_by, refl, sym, ◌∙◌, arith, inl, inr}
 use Rattle.std.proofs.lemmas.Bool.{cases_lt, eq-eqb, ne_eqb}
 use Rattle.std.proofs.lemmas.List.Sums.{sum_by-cons}
 use Rattle.std.proofs.Math.Nat.{mul-zero, mul-le-mul_right}
 use Rattle.match_rules.specs.declared.answer.Sieve.TheVariants.{All as EveryPair}
 use Rattle.match_rules.specs.declared.lottery.Piece.{Piece}
-use Rattle.match_rules.specs.Assignments.{Fits, Meets, holds, paper_count, tickets, times}
+use Rattle.match_rules.specs.Assignments.{Fits, Meets, holds, paper_count, times}
 use Rattle.match_rules.specs.Rules.{RulesValue, AreRules, is_locked, pair_at}
 use Rattle.match_rules.specs.Sums.{count_below, when}
 use Rattle.match_rules.specs.Thresholds.{CanFitLocked, FitsLocked}

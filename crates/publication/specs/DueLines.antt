@@ -1,7 +1,6 @@
 -- What is due behind the lines of a text: of rules, of an answer, and of a certificate, which is both.
 use Rattle.std.specs.Prelude.{ℕ, ℤ, List, length, codes}
 use Rattle.match_rules.specs.declared.answer.Mode.{Mode}
-use Rattle.match_rules.specs.declared.lottery.Piece.{Piece}
 use Rattle.match_rules.specs.declared.rules.RulePaper.{RulePaper}
 use Rattle.match_rules.specs.declared.rules.RuleReviewer.{RuleReviewer}
 use Rattle.match_rules.specs.declared.rules.RulePair.{RulePair}

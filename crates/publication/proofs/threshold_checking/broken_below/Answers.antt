@@ -1,4 +1,4 @@
-use Rattle.std.proofs.Common.{◌≡◌, ◌<◌, ◌||◌, ◌==◌, length, slice_index, arith, sym}
+use Rattle.std.proofs.Common.{◌<◌, ◌||◌, ◌==◌, length, slice_index, arith, sym}
 use Rattle.match_rules.proofs.Firsts.{first_below-found}
 use Rattle.match_rules.specs.declared.breaks.Break.TheVariants.{Below}
 use Rattle.publication.specs.Checks.{below_break, may_share}
