@@ -11,7 +11,6 @@ use Rattle.residual_arcs.proofs.Closing.{AreViolated-from_closed}
 use Rattle.flow_solver.specs.declared.state.State.{State}
 use Rattle.flow_solver.specs.State.{excess_at}
 use Rattle.flow_solver.specs.Search.{is_settled, IsClosed}
-use Rattle.flow_solver.proofs.Searches.{IsStateOf}
 
 -- what is not negative, at an integer read as a natural
 abbrev pub worth : ℤ → ℕ
@@ -25,14 +24,14 @@ worth-decreases (negsuc m) (pos n) less rich = absurd (omega (arith, ints))
 worth-decreases (negsuc m) (negsuc n) less rich = absurd (omega (arith, ints))
 
 -- settled nodes that are closed, with some excess among them, are violated marks
-pub AreViolated-from_settled : (net : NetworkValue) (state : State) (source : ℕ) (settled : List Bool) → IsNetwork net → IsStateOf net state → IsClosed net state source settled → source < net.nodes → pos 0 <ℤ excess_at state.excess.items source → AreViolated net settled
-AreViolated-from_settled net state source settled good kept closed source_in rich =
-    let calm : (v : ℕ) → v < net.nodes → is_settled settled v ≡ true → leaving net state.flow.items v ≤ entering net state.flow.items v = λ v b s.
-    let e = kept.exact v b in
+pub AreViolated-from_settled : (state : State) (source : ℕ) (settled : List Bool) → IsClosed state source settled → source < state.network.now.nodes → pos 0 <ℤ excess_at state.excess.items source → AreViolated state.network.now settled
+AreViolated-from_settled state source settled closed source_in rich =
+    let calm : (v : ℕ) → v < state.network.now.nodes → is_settled settled v ≡ true → leaving state.network.now state.flow.items v ≤ entering state.network.now state.flow.items v = λ v b s.
+    let e = state.kept.exact v b in
     let h = closed.calm v s in
     omega (arith, ints, e, h) in
-    let e = kept.exact source source_in in
-    AreViolated-from_closed net state.flow.items settled good kept.floors kept.rooms closed.closed calm source source_in closed.source_settled (omega (arith, ints, e, rich))
+    let e = state.kept.exact source source_in in
+    AreViolated-from_closed state.network.now state.flow.items settled state.good state.kept.floors state.kept.rooms closed.closed calm source source_in closed.source_settled (omega (arith, ints, e, rich))
 
 -- the excesses together are nothing
 excesses-sum : (net : NetworkValue) (flow : List ℕ) → IsNetwork net → sum_below net.nodes (λ v. pos (leaving net flow v) -ℤ pos (entering net flow v)) ≡ pos 0
@@ -46,18 +45,18 @@ excesses-sum net flow good =
     same ∙ sym sum ∙ none
 
 -- with no excess anywhere the flow is a circulation
-pub IsCirculation-from_poor : (net : NetworkValue) (state : State) → IsNetwork net → IsStateOf net state → ((v : ℕ) → v < net.nodes → excess_at state.excess.items v ≤ℤ pos 0) → IsCirculation net state.flow.items
-IsCirculation-from_poor net state good kept poor =
+pub IsCirculation-from_poor : (state : State) → ((v : ℕ) → v < state.network.now.nodes → excess_at state.excess.items v ≤ℤ pos 0) → IsCirculation state.network.now state.flow.items
+IsCirculation-from_poor state poor =
     let flow : List ℕ = state.flow.items in
     record {
-      long = kept.flow_long;
-      floors = kept.floors;
-      rooms = kept.rooms;
+      long = state.kept.flow_long;
+      floors = state.kept.floors;
+      rooms = state.kept.rooms;
       balanced = λ v b.
-          let lack : ℕ → ℤ = λ u. pos (leaving net flow u) -ℤ pos (entering net flow u) in
-          let some : (u : ℕ) → u < net.nodes → pos 0 ≤ℤ lack u = λ u u_in. let e = kept.exact u u_in in let h = poor u u_in in omega (arith, ints, e, h) in
-          let here = term_le_sum net.nodes lack v some b in
-          let e = kept.exact v b in
+          let lack : ℕ → ℤ = λ u. pos (leaving state.network.now flow u) -ℤ pos (entering state.network.now flow u) in
+          let some : (u : ℕ) → u < state.network.now.nodes → pos 0 ≤ℤ lack u = λ u u_in. let e = state.kept.exact u u_in in let h = poor u u_in in omega (arith, ints, e, h) in
+          let here = term_le_sum state.network.now.nodes lack v some b in
+          let e = state.kept.exact v b in
           let h = poor v b in
-          omega (arith, ints, here, e, h, excesses-sum net flow good);
+          omega (arith, ints, here, e, h, excesses-sum state.network.now flow state.good);
     }

@@ -1,5 +1,6 @@
 pub mod Updates
 pub mod Bounds
+pub mod Costing
 pub mod Cuts
 pub mod Endings
 pub mod Following

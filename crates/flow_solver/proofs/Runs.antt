@@ -8,7 +8,7 @@ use Rattle.std.proofs.lemmas.List.{length-set, length-replicate, get_or-replicat
 use Rattle.bounded_network.proofs.Sums.{count_below-at_most}
 use Rattle.residual_arcs.proofs.Amounts.{count_below-change}
 use Rattle.match_rules.specs.Sums.{count_below, when}
-use Rattle.bounded_network.specs.Network.{NetworkValue, IsNetwork, arc_at}
+use Rattle.bounded_network.specs.Network.{arc_at}
 use Rattle.flow_solver.specs.declared.state.State.{State}
 use Rattle.flow_solver.specs.declared.search.Reach.{Reach}
 use Rattle.flow_solver.specs.declared.search.Search.{Search}
@@ -16,48 +16,47 @@ use Rattle.flow_solver.specs.Queue.{Waits}
 use Rattle.residual_arcs.specs.Step.{start_of, end_of}
 use Rattle.flow_solver.specs.State.{excess_at}
 use Rattle.flow_solver.specs.Search.{unreached, distance_at, reach_at, is_settled, IsSearchOf, IsRelaxed, IsRelaxedFrom, IsClosed, IsCleared, IsClearable, IsSearch}
-use Rattle.flow_solver.proofs.Searches.{IsStateOf}
 use Rattle.flow_solver.proofs.Settling.{IsSearchOf-settle}
 use Rattle.residual_arcs.proofs.Steps.{end_in}
 use Rattle.flow_solver.proofs.Bounds.{over_settled_small}
 
 -- nothing waits but settled nodes: the settled nodes are closed
-pub IsClosed-from_search : (net : NetworkValue) (state : State) (source node : ℕ) (tree reaches : List Reach) (distances : List ℕ) (settled : List Bool) (waiting : List (Reverse ℕ × ℕ))
-    → IsNetwork net → IsStateOf net state → IsSearchOf net state source node tree reaches distances settled waiting → IsRelaxedFrom net state distances node → pos 0 ≤ℤ excess_at state.excess.items node
-    → ((d v : ℕ) → Waits waiting d v → is_settled settled v ≡ true) → IsClosed net state source settled
-IsClosed-from_search net state source node tree reaches distances settled waiting good kept search done calm none =
+pub IsClosed-from_search : (state : State) (source node : ℕ) (tree reaches : List Reach) (distances : List ℕ) (settled : List Bool) (waiting : List (Reverse ℕ × ℕ))
+    → IsSearchOf state source node tree reaches distances settled waiting → IsRelaxedFrom state distances node → pos 0 ≤ℤ excess_at state.excess.items node
+    → ((d v : ℕ) → Waits waiting d v → is_settled settled v ≡ true) → IsClosed state source settled
+IsClosed-from_search state source node tree reaches distances settled waiting search done calm none =
     let is_tree = search.is_tree in
     record {
       long = is_tree.settled_long;
       source_settled = rw is_tree.root at (is_tree.are_settled 0 is_tree.some);
       calm = λ v s. elim (cases_eq v node) [ inl e ↦ rw e calm | inr ne ↦ search.calm v s ne ];
       closed = λ a forward a_in starts room.
-          let u : ℕ = start_of (arc_at net a) forward in
-          let w : ℕ = end_of (arc_at net a) forward in
-          let relaxed : IsRelaxed net state distances u a forward = elim (cases_eq u node) [
-            | inl e ↦ subst (λ x. IsRelaxed net state distances x a forward) (sym e) (done a forward a_in)
+          let u : ℕ = start_of (arc_at state.network.now a) forward in
+          let w : ℕ = end_of (arc_at state.network.now a) forward in
+          let relaxed : IsRelaxed state distances u a forward = elim (cases_eq u node) [
+            | inl e ↦ subst (λ x. IsRelaxed state distances x a forward) (sym e) (done a forward a_in)
             | inr ne ↦ search.relaxed u starts ne a forward a_in
           ] in
           let near = relaxed refl room in
-          let small = over_settled_small net state source tree distances settled good kept is_tree u starts a forward a_in refl in
+          let small = over_settled_small state source tree distances settled is_tree u starts a forward a_in refl in
           let reached : distance_at distances w < unreached = omega (arith, ints, near, small) in
           elim (cases_Bool (is_settled settled w)) [
             | inl s ↦ s
-            | inr uns ↦ none (distance_at distances w) w (search.waits w (end_in net.nodes (arc_at net a) forward (good.each a a_in)) uns reached)
+            | inr uns ↦ none (distance_at distances w) w (search.waits w (end_in state.network.now.nodes (arc_at state.network.now a) forward (state.good.each a a_in)) uns reached)
           ];
     }
 
 -- the nearest node that waits is settled next
-pub IsSearchOf-next : (net : NetworkValue) (state : State) (source node : ℕ) (tree reaches : List Reach) (distances : List ℕ) (settled : List Bool) (waiting waiting' : List (Reverse ℕ × ℕ))
-    → IsNetwork net → IsSearchOf net state source node tree reaches distances settled waiting → IsRelaxedFrom net state distances node → pos 0 ≤ℤ excess_at state.excess.items node
+pub IsSearchOf-next : (state : State) (source node : ℕ) (tree reaches : List Reach) (distances : List ℕ) (settled : List Bool) (waiting waiting' : List (Reverse ℕ × ℕ))
+    → IsSearchOf state source node tree reaches distances settled waiting → IsRelaxedFrom state distances node → pos 0 ≤ℤ excess_at state.excess.items node
     → (d v : ℕ) → Waits waiting d v → is_settled settled v ≡ false
     → ((e u : ℕ) → Waits waiting' e u → Waits waiting e u)
     → ((e u : ℕ) → Waits waiting e u → is_settled settled u ≡ false → Waits waiting' e u ⊎ ((e ≡ d) × (u ≡ v)))
     → ((e u : ℕ) → Waits waiting e u → is_settled settled u ≡ false → d ≤ e)
-    → IsSearchOf net state source v (tree ++ reach_at reaches v ∷ []) reaches distances (slice_set settled v true) waiting'
-IsSearchOf-next net state source node tree reaches distances settled waiting waiting' good search done calm d v waited unsettled only kept nearest =
+    → IsSearchOf state source v (tree ++ reach_at reaches v ∷ []) reaches distances (slice_set settled v true) waiting'
+IsSearchOf-next state source node tree reaches distances settled waiting waiting' search done calm d v waited unsettled only kept nearest =
     let q = search.queued d v waited in
-    IsSearchOf-settle net state source node tree reaches distances settled waiting good search done calm v waiting' q.0 unsettled (omega (arith, q.1, q.2))
+    IsSearchOf-settle state source node tree reaches distances settled waiting search done calm v waiting' q.0 unsettled (omega (arith, q.1, q.2))
     (λ u u_in uns. elim (cases_lt (distance_at distances u) unreached) [
       | inl reached ↦ let h = nearest (distance_at distances u) u (search.waits u u_in uns reached) uns in omega (arith, h, q.1)
       | inr far ↦ omega (arith, q.1, q.2)
@@ -82,13 +81,13 @@ one_settled n settled source b here others =
     omega (arith, change, none, at)
 
 -- a search that has settled its source alone, from a blank one
-pub IsSearchOf-begin : (net : NetworkValue) (state : State) (source : ℕ) (root : Reach) (reaches : List Reach) (blank_distances : List ℕ) (blank_settled : List Bool) (waiting : List (Reverse ℕ × ℕ))
-    → source < net.nodes → root.node ≡ source → 0 < root.width → pos root.width ≤ℤ excess_at state.excess.items source → length reaches ≡ net.nodes
-    → length blank_distances ≡ net.nodes → length blank_settled ≡ net.nodes → ((v : ℕ) → v < net.nodes → IsCleared blank_distances blank_settled v)
+pub IsSearchOf-begin : (state : State) (source : ℕ) (root : Reach) (reaches : List Reach) (blank_distances : List ℕ) (blank_settled : List Bool) (waiting : List (Reverse ℕ × ℕ))
+    → source < state.network.now.nodes → root.node ≡ source → 0 < root.width → pos root.width ≤ℤ excess_at state.excess.items source → length reaches ≡ state.network.now.nodes
+    → length blank_distances ≡ state.network.now.nodes → length blank_settled ≡ state.network.now.nodes → ((v : ℕ) → v < state.network.now.nodes → IsCleared blank_distances blank_settled v)
     → ((d v : ℕ) → Waits waiting d v → ⊥)
-    → IsSearchOf net state source source (root ∷ []) reaches (slice_set blank_distances source 0) (slice_set blank_settled source true) waiting
-IsSearchOf-begin net state source root reaches blank_distances blank_settled waiting source_in root_is some within long distances_long settled_long cleared none =
-    let n : ℕ = net.nodes in
+    → IsSearchOf state source source (root ∷ []) reaches (slice_set blank_distances source 0) (slice_set blank_settled source true) waiting
+IsSearchOf-begin state source root reaches blank_distances blank_settled waiting source_in root_is some within long distances_long settled_long cleared none =
+    let n : ℕ = state.network.now.nodes in
     let distances : List ℕ = slice_set blank_distances source 0 in
     let settled : List Bool = slice_set blank_settled source true in
     let d_in : source < length blank_distances = omega (arith, distances_long, source_in) in
@@ -140,8 +139,8 @@ IsSearchOf-begin net state source root reaches blank_distances blank_settled wai
     }
 
 -- after a search, every node that is reached stands in the tree or waits
-pub IsClearable-from_search : (net : NetworkValue) (state : State) (search : Search) → IsSearch net state search → IsClearable net search
-IsClearable-from_search net state search kept = record {
+pub IsClearable-from_search : (state : State) (search : Search) → IsSearch state search → IsClearable state.network.now search
+IsClearable-from_search state search kept = record {
   distances_long = kept.distances_long;
   reaches_long = kept.reaches_long;
   settled_long = kept.is_tree.settled_long;

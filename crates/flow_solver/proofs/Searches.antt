@@ -5,25 +5,21 @@ use Rattle.std.specs.declared.cmp.Reverse.{Reverse}
 use Rattle.std.proofs.lemmas.Int.{ints}
 use Rattle.std.proofs.lemmas.Bool.{cases_eq, both_ways}
 use Rattle.std.proofs.lemmas.List.{length-set}
-use Rattle.bounded_network.specs.Network.{NetworkValue, IsArc, arc_at}
+use Rattle.bounded_network.specs.Network.{IsArc, arc_at}
 use Rattle.bounded_network.specs.declared.network.Arc.{Arc}
 use Rattle.flow_solver.specs.declared.state.State.{State}
 use Rattle.flow_solver.specs.declared.search.Reach.{Reach}
 use Rattle.flow_solver.specs.Queue.{Waits}
 use Rattle.residual_arcs.specs.Step.{end_of, step_cost, left_on}
 use Rattle.flow_solver.specs.Step.{step_reduced}
-use Rattle.flow_solver.specs.State.{IsWithin, IsState}
+use Rattle.flow_solver.specs.State.{IsWithin}
 use Rattle.flow_solver.specs.Search.{unreached, distance_at, reach_at, is_settled, IsReach, IsRelaxedFrom, IsTree, IsSearchOf}
 
--- a state's facts, for a whole state
-abbrev pub IsStateOf : NetworkValue → State → Type 0
-IsStateOf net state = IsState net state.flow.items state.excess.items state.potentials.items
-
 -- a step with room has no negative reduced cost
-pub step_not_negative : (net : NetworkValue) (state : State) → IsStateOf net state → (a : ℕ) (forward : Bool) → a < length net.arcs → 0 < left_on (arc_at net a) (slice_index state.flow.items a) forward → pos 0 ≤ℤ step_reduced (arc_at net a) forward state.potentials.items
-step_not_negative net state kept a true a_in room = kept.optimal.may_rise a a_in (omega arith)
-step_not_negative net state kept a false a_in room =
-    let h = kept.optimal.may_fall a a_in (omega arith) in
+pub step_not_negative : (state : State) → (a : ℕ) (forward : Bool) → a < length state.network.now.arcs → 0 < left_on (arc_at state.network.now a) (slice_index state.flow.items a) forward → pos 0 ≤ℤ step_reduced (arc_at state.network.now a) forward state.potentials.items
+step_not_negative state a true a_in room = state.kept.optimal.may_rise a a_in (omega arith)
+step_not_negative state a false a_in room =
+    let h = state.kept.optimal.may_fall a a_in (omega arith) in
     omega (arith, ints, h)
 
 -- a step costs no more than the greatest cost
@@ -56,13 +52,13 @@ IsLowered-set old w d w_in lower = record {
 pub settled_apart : (settled : List Bool) (u w : ℕ) → is_settled settled u ≡ true → is_settled settled w ≡ false → u ≢ w
 settled_apart settled u w here not_there same = both_ways (is_settled settled w) not_there (rw same at here)
 
-module _ (net : NetworkValue) (state : State) (old new : List ℕ) (w d : ℕ) (lowered : IsLowered old new w d) where
-  pub IsRelaxedFrom-lower : (v : ℕ) → v ≢ w → IsRelaxedFrom net state old v → IsRelaxedFrom net state new v
+module _ (state : State) (old new : List ℕ) (w d : ℕ) (lowered : IsLowered old new w d) where
+  pub IsRelaxedFrom-lower : (v : ℕ) → v ≢ w → IsRelaxedFrom state old v → IsRelaxedFrom state new v
   IsRelaxedFrom-lower v ne relaxed a forward a_in starts room =
-      let less = IsLowered-le old new w d lowered (end_of (arc_at net a) forward) in
+      let less = IsLowered-le old new w d lowered (end_of (arc_at state.network.now a) forward) in
       rw (lowered.others v ne) (omega (arith, ints, less, relaxed a forward a_in starts room))
 
-  pub IsReach-lower : (tree : List Reach) (limit : ℕ) (reach : Reach) (v : ℕ) → v ≢ w → (reach_at tree reach.from).node ≢ w → IsReach net state tree old limit reach v → IsReach net state tree new limit reach v
+  pub IsReach-lower : (tree : List Reach) (limit : ℕ) (reach : Reach) (v : ℕ) → v ≢ w → (reach_at tree reach.from).node ≢ w → IsReach state tree old limit reach v → IsReach state tree new limit reach v
   IsReach-lower tree limit reach v ne parent_ne reaches = record {
     node = reaches.node;
     from = reaches.from;
@@ -75,7 +71,7 @@ module _ (net : NetworkValue) (state : State) (old new : List ℕ) (w d : ℕ) (
     narrow = reaches.narrow;
   }
 
-  pub IsTree-lower : (source : ℕ) (tree : List Reach) (settled : List Bool) → is_settled settled w ≡ false → IsTree net state source tree old settled → IsTree net state source tree new settled
+  pub IsTree-lower : (source : ℕ) (tree : List Reach) (settled : List Bool) → is_settled settled w ≡ false → IsTree state source tree old settled → IsTree state source tree new settled
   IsTree-lower source tree settled unsettled is_tree =
       let far : (i : ℕ) → i < length tree → (reach_at tree i).node ≢ w = λ i b. settled_apart settled (reach_at tree i).node w (is_tree.are_settled i b) unsettled in
       let root_far : source ≢ w = rw is_tree.root at (far 0 is_tree.some) in
@@ -99,19 +95,19 @@ module _ (net : NetworkValue) (state : State) (old new : List ℕ) (w d : ℕ) (
       }
 
 -- the search once a distance is lower
-pub IsSearchOf-lower : (net : NetworkValue) (state : State) (source node : ℕ) (tree reaches : List Reach) (distances : List ℕ) (settled : List Bool) (waiting : List (Reverse ℕ × ℕ))
-    → IsSearchOf net state source node tree reaches distances settled waiting
+pub IsSearchOf-lower : (state : State) (source node : ℕ) (tree reaches : List Reach) (distances : List ℕ) (settled : List Bool) (waiting : List (Reverse ℕ × ℕ))
+    → IsSearchOf state source node tree reaches distances settled waiting
     → (w d : ℕ) (distances' : List ℕ) (reaches' : List Reach) (waiting' : List (Reverse ℕ × ℕ))
-    → w < net.nodes → d < unreached → is_settled settled w ≡ false → distance_at distances node ≤ d → IsLowered distances distances' w d
-    → length reaches' ≡ length reaches → IsReach net state tree distances' (length tree) (reach_at reaches' w) w → ((v : ℕ) → v ≢ w → reach_at reaches' v ≡ reach_at reaches v)
+    → w < state.network.now.nodes → d < unreached → is_settled settled w ≡ false → distance_at distances node ≤ d → IsLowered distances distances' w d
+    → length reaches' ≡ length reaches → IsReach state tree distances' (length tree) (reach_at reaches' w) w → ((v : ℕ) → v ≢ w → reach_at reaches' v ≡ reach_at reaches v)
     → Waits waiting' d w → ((e v : ℕ) → Waits waiting e v → Waits waiting' e v) → ((e v : ℕ) → Waits waiting' e v → Waits waiting e v ⊎ ((e ≡ d) × (v ≡ w)))
-    → IsSearchOf net state source node tree reaches' distances' settled waiting'
-IsSearchOf-lower net state source node tree reaches distances settled waiting search w d distances' reaches' waiting' w_in d_reached unsettled far lowered reaches_long reached reaches_same added kept only =
+    → IsSearchOf state source node tree reaches' distances' settled waiting'
+IsSearchOf-lower state source node tree reaches distances settled waiting search w d distances' reaches' waiting' w_in d_reached unsettled far lowered reaches_long reached reaches_same added kept only =
     let node_far : node ≢ w = settled_apart settled node w search.node_settled unsettled in
     let node_same : distance_at distances' node ≡ distance_at distances node = lowered.others node node_far in
     let tree_far : (i : ℕ) → i < length tree → (reach_at tree i).node ≢ w = λ i b. settled_apart settled (reach_at tree i).node w (search.is_tree.are_settled i b) unsettled in
     record {
-      is_tree = IsTree-lower net state distances distances' w d lowered source tree settled unsettled search.is_tree;
+      is_tree = IsTree-lower state distances distances' w d lowered source tree settled unsettled search.is_tree;
       distances_long = lowered.long ∙ search.distances_long;
       reaches_long = reaches_long ∙ search.reaches_long;
       node_in = search.node_in;
@@ -121,7 +117,7 @@ IsSearchOf-lower net state source node tree reaches distances settled waiting se
         | inl e ↦ rw e reached
         | inr ne ↦
             let r = search.candidates v v_in uns (rw (lowered.others v ne) at less) in
-            rw (reaches_same v ne) (IsReach-lower net state distances distances' w d lowered tree (length tree) (reach_at reaches v) v ne (tree_far (reach_at reaches v).from r.from) r)
+            rw (reaches_same v ne) (IsReach-lower state distances distances' w d lowered tree (length tree) (reach_at reaches v) v ne (tree_far (reach_at reaches v).from r.from) r)
       ];
       nearer = λ v s. rw (node_same, lowered.others v (settled_apart settled v w s unsettled)) (search.nearer v s);
       further = λ v v_in uns. rw node_same (elim (cases_eq v w) [
@@ -136,6 +132,6 @@ IsSearchOf-lower net state source node tree reaches distances settled waiting se
         | inl e ↦ rw (e, lowered.at) added
         | inr ne ↦ rw (lowered.others v ne) (kept (distance_at distances v) v (search.waits v v_in uns (rw (lowered.others v ne) at less)))
       ];
-      relaxed = λ v s ne. IsRelaxedFrom-lower net state distances distances' w d lowered v (settled_apart settled v w s unsettled) (search.relaxed v s ne);
+      relaxed = λ v s ne. IsRelaxedFrom-lower state distances distances' w d lowered v (settled_apart settled v w s unsettled) (search.relaxed v s ne);
       calm = search.calm;
     }

@@ -6,7 +6,7 @@ use Rattle.std.proofs.lemmas.Int.{ints}
 use Rattle.std.proofs.lemmas.Bool.{cases_eq, cases_lt, both_ways}
 use Rattle.std.proofs.lemmas.List.{length-set, get_or_push, get_or_append_left, length_push}
 use Rattle.match_rules.specs.Sums.{count_below, when}
-use Rattle.bounded_network.specs.Network.{NetworkValue, IsNetwork, arc_at, potential_at}
+use Rattle.bounded_network.specs.Network.{arc_at, potential_at}
 use Rattle.bounded_network.proofs.Sums.{count_below-at_most}
 use Rattle.flow_solver.specs.declared.state.State.{State}
 use Rattle.flow_solver.specs.declared.search.Reach.{Reach}
@@ -20,9 +20,9 @@ use Rattle.residual_arcs.proofs.Steps.{end_among}
 use Rattle.flow_solver.proofs.Searches.{step_cost_within, settled_apart}
 
 -- the tree has no more nodes than the network
-pub tree_short : (net : NetworkValue) (state : State) (source : ℕ) (tree : List Reach) (distances : List ℕ) (settled : List Bool) → IsTree net state source tree distances settled → length tree ≤ net.nodes
-tree_short net state source tree distances settled is_tree =
-    let bound = count_below-at_most net.nodes (λ v. when (is_settled settled v) 1) 1 (λ v b. when_at_most (is_settled settled v) 1) in
+pub tree_short : (state : State) (source : ℕ) (tree : List Reach) (distances : List ℕ) (settled : List Bool) → IsTree state source tree distances settled → length tree ≤ state.network.now.nodes
+tree_short state source tree distances settled is_tree =
+    let bound = count_below-at_most state.network.now.nodes (λ v. when (is_settled settled v) 1) 1 (λ v b. when_at_most (is_settled settled v) 1) in
     omega (arith, bound, is_tree.counted)
 
 module _ (tree : List Reach) (r : Reach) where
@@ -32,8 +32,8 @@ module _ (tree : List Reach) (r : Reach) where
   pub grown-new : reach_at (tree ++ r ∷ []) (length tree) ≡ r
   grown-new = get_or_push tree r no_reach (length tree) refl
 
-  pub IsReach-grown : (net : NetworkValue) (state : State) (distances : List ℕ) (limit : ℕ) (reach : Reach) (v : ℕ) → reach.from < length tree → IsReach net state tree distances limit reach v → IsReach net state (tree ++ r ∷ []) distances limit reach v
-  IsReach-grown net state distances limit reach v b reached = record {
+  pub IsReach-grown : (state : State) (distances : List ℕ) (limit : ℕ) (reach : Reach) (v : ℕ) → reach.from < length tree → IsReach state tree distances limit reach v → IsReach state (tree ++ r ∷ []) distances limit reach v
+  IsReach-grown state distances limit reach v b reached = record {
     node = reached.node;
     from = reached.from;
     arc = reached.arc;
@@ -53,8 +53,8 @@ module _ (tree : List Reach) (r : Reach) where
   ]
 
 -- a more distant limit
-IsReach-wider : (net : NetworkValue) (state : State) (tree : List Reach) (distances : List ℕ) (limit more : ℕ) (reach : Reach) (v : ℕ) → limit ≤ more → IsReach net state tree distances limit reach v → IsReach net state tree distances more reach v
-IsReach-wider net state tree distances limit more reach v le reached = record {
+IsReach-wider : (state : State) (tree : List Reach) (distances : List ℕ) (limit more : ℕ) (reach : Reach) (v : ℕ) → limit ≤ more → IsReach state tree distances limit reach v → IsReach state tree distances more reach v
+IsReach-wider state tree distances limit more reach v le reached = record {
   node = reached.node;
   from = omega (arith, reached.from);
   arc = reached.arc;
@@ -83,27 +83,27 @@ module _ (settled : List Bool) (v : ℕ) (v_in : v < length settled) where
   ]
 
 -- the heights at the two ends of a step of the tree differ by its cost
-pub height-step : (net : NetworkValue) (state : State) (tree : List Reach) (distances : List ℕ) (limit : ℕ) (reach : Reach) (v : ℕ) → IsReach net state tree distances limit reach v
-    → height_at state distances v ≡ height_at state distances (reach_at tree reach.from).node +ℤ step_cost (arc_at net reach.step.arc) reach.step.forward
-height-step net state tree distances limit reach v reached =
+pub height-step : (state : State) (tree : List Reach) (distances : List ℕ) (limit : ℕ) (reach : Reach) (v : ℕ) → IsReach state tree distances limit reach v
+    → height_at state distances v ≡ height_at state distances (reach_at tree reach.from).node +ℤ step_cost (arc_at state.network.now reach.step.arc) reach.step.forward
+height-step state tree distances limit reach v reached =
     let p : ℕ = (reach_at tree reach.from).node in
-    let cost : ℤ = step_cost (arc_at net reach.step.arc) reach.step.forward in
+    let cost : ℤ = step_cost (arc_at state.network.now reach.step.arc) reach.step.forward in
     let potentials : List ℤ = state.potentials.items in
-    let e : step_reduced (arc_at net reach.step.arc) reach.step.forward potentials ≡ (cost +ℤ potential_at potentials p) -ℤ potential_at potentials v =
-    ap (λ x. (cost +ℤ potential_at potentials x) -ℤ potential_at potentials (end_of (arc_at net reach.step.arc) reach.step.forward)) reached.starts
+    let e : step_reduced (arc_at state.network.now reach.step.arc) reach.step.forward potentials ≡ (cost +ℤ potential_at potentials p) -ℤ potential_at potentials v =
+    ap (λ x. (cost +ℤ potential_at potentials x) -ℤ potential_at potentials (end_of (arc_at state.network.now reach.step.arc) reach.step.forward)) reached.starts
     ∙ ap (λ x. (cost +ℤ potential_at potentials p) -ℤ potential_at potentials x) reached.ends in
     omega (arith, ints, e, reached.distance)
 
-module _ (net : NetworkValue) (state : State) (source : ℕ) (tree : List Reach) (distances : List ℕ) (settled : List Bool) (good : IsNetwork net) (is_tree : IsTree net state source tree distances settled)
-    (r : Reach) (v : ℕ) (v_in : v < net.nodes) (unsettled : is_settled settled v ≡ false) (reached : IsReach net state tree distances (length tree) r v) where
+module _ (state : State) (source : ℕ) (tree : List Reach) (distances : List ℕ) (settled : List Bool) (is_tree : IsTree state source tree distances settled)
+    (r : Reach) (v : ℕ) (v_in : v < state.network.now.nodes) (unsettled : is_settled settled v ≡ false) (reached : IsReach state tree distances (length tree) r v) where
   in_settled : v < length settled
   in_settled = omega (arith, is_tree.settled_long)
 
-  counted_more : count_below net.nodes (λ u. when (is_settled (slice_set settled v true) u) 1) ≡ length (tree ++ r ∷ [])
+  counted_more : count_below state.network.now.nodes (λ u. when (is_settled (slice_set settled v true) u) 1) ≡ length (tree ++ r ∷ [])
   counted_more =
       let f : ℕ → ℕ = λ u. when (is_settled settled u) 1 in
       let g : ℕ → ℕ = λ u. when (is_settled (slice_set settled v true) u) 1 in
-      let change = count_below-change net.nodes f g v v_in (λ u b ne. ap (λ t. when t 1) (sym (marked-other settled v in_settled u ne))) in
+      let change = count_below-change state.network.now.nodes f g v v_in (λ u b ne. ap (λ t. when t 1) (sym (marked-other settled v in_settled u ne))) in
       let before : f v ≡ 0 = ap (λ t. when t 1) unsettled in
       let after : g v ≡ 1 = ap (λ t. when t 1) (marked-here settled v in_settled) in
       omega (arith, change, before, after, is_tree.counted, length_push tree r)
@@ -112,12 +112,12 @@ module _ (net : NetworkValue) (state : State) (source : ℕ) (tree : List Reach)
   arc_new : (i : ℕ) → 0 < i → i < length tree → (reach_at tree i).step.arc ≢ r.step.arc
   arc_new i some b same =
       let old = is_tree.reaches i some b in
-      let starts_settled : is_settled settled (start_of (arc_at net (reach_at tree i).step.arc) (reach_at tree i).step.forward) ≡ true =
+      let starts_settled : is_settled settled (start_of (arc_at state.network.now (reach_at tree i).step.arc) (reach_at tree i).step.forward) ≡ true =
       rw old.starts (is_tree.are_settled (reach_at tree i).from (omega (arith, old.from))) in
-      let ends_settled : is_settled settled (end_of (arc_at net (reach_at tree i).step.arc) (reach_at tree i).step.forward) ≡ true =
+      let ends_settled : is_settled settled (end_of (arc_at state.network.now (reach_at tree i).step.arc) (reach_at tree i).step.forward) ≡ true =
       rw old.ends (is_tree.are_settled i b) in
-      let here : end_of (arc_at net (reach_at tree i).step.arc) r.step.forward ≡ v = ap (λ a. end_of (arc_at net a) r.step.forward) same ∙ reached.ends in
-      elim (end_among (arc_at net (reach_at tree i).step.arc) r.step.forward (reach_at tree i).step.forward) [
+      let here : end_of (arc_at state.network.now (reach_at tree i).step.arc) r.step.forward ≡ v = ap (λ a. end_of (arc_at state.network.now a) r.step.forward) same ∙ reached.ends in
+      elim (end_among (arc_at state.network.now (reach_at tree i).step.arc) r.step.forward (reach_at tree i).step.forward) [
         | inl at_start ↦ both_ways (is_settled settled v) unsettled (ap (is_settled settled) (sym here ∙ at_start) ∙ starts_settled)
         | inr at_end ↦ both_ways (is_settled settled v) unsettled (ap (is_settled settled) (sym here ∙ at_end) ∙ ends_settled)
       ]
@@ -127,14 +127,14 @@ module _ (net : NetworkValue) (state : State) (source : ℕ) (tree : List Reach)
   near_new u s =
       let p : ℕ = (reach_at tree r.from).node in
       let p_settled = is_tree.are_settled r.from reached.from in
-      let step = height-step net state tree distances (length tree) r v reached in
-      let cost = step_cost_within net.nodes (arc_at net r.step.arc) r.step.forward (good.each r.step.arc reached.arc) in
+      let step = height-step state tree distances (length tree) r v reached in
+      let cost = step_cost_within state.network.now.nodes (arc_at state.network.now r.step.arc) r.step.forward (state.good.each r.step.arc reached.arc) in
       let one = is_tree.near u p s p_settled in
       let two = is_tree.near p u p_settled s in
       let some = is_tree.some in
       (omega (arith, ints, step, cost.low, cost.high, one), omega (arith, ints, step, cost.low, cost.high, two))
 
-  pub IsTree-grown : IsTree net state source (tree ++ r ∷ []) distances (slice_set settled v true)
+  pub IsTree-grown : IsTree state source (tree ++ r ∷ []) distances (slice_set settled v true)
   IsTree-grown =
       let tree' : List Reach = tree ++ r ∷ [] in
       let long : length tree' ≡ length tree + 1 = length_push tree r in
@@ -168,10 +168,10 @@ module _ (net : NetworkValue) (state : State) (source : ℕ) (tree : List Reach)
         reaches = λ i some b. elim (grown-cases tree r i b) [
           | inl old ↦
               let was = is_tree.reaches i some old.0 in
-              rw old.1 (IsReach-grown tree r net state distances i (reach_at tree i) (reach_at tree i).node (omega (arith, was.from)) was)
+              rw old.1 (IsReach-grown tree r state distances i (reach_at tree i) (reach_at tree i).node (omega (arith, was.from)) was)
           | inr new ↦
-              let at_node : IsReach net state tree' distances (length tree) r r.node =
-              subst (λ x. IsReach net state tree' distances (length tree) r x) (sym reached.node) (IsReach-grown tree r net state distances (length tree) r v reached.from reached) in
+              let at_node : IsReach state tree' distances (length tree) r r.node =
+              subst (λ x. IsReach state tree' distances (length tree) r x) (sym reached.node) (IsReach-grown tree r state distances (length tree) r v reached.from reached) in
               rw (new.1, new.0) at_node
         ];
         apart = λ i j some less b. elim (grown-cases tree r j b) [
@@ -193,14 +193,14 @@ module _ (net : NetworkValue) (state : State) (source : ℕ) (tree : List Reach)
       }
 
 -- the search once its nearest node is settled
-pub IsSearchOf-settle : (net : NetworkValue) (state : State) (source node : ℕ) (tree reaches : List Reach) (distances : List ℕ) (settled : List Bool) (waiting : List (Reverse ℕ × ℕ))
-    → IsNetwork net → IsSearchOf net state source node tree reaches distances settled waiting → IsRelaxedFrom net state distances node → pos 0 ≤ℤ excess_at state.excess.items node
-    → (v : ℕ) (waiting' : List (Reverse ℕ × ℕ)) → v < net.nodes → is_settled settled v ≡ false → distance_at distances v < unreached
-    → ((u : ℕ) → u < net.nodes → is_settled settled u ≡ false → distance_at distances v ≤ distance_at distances u)
+pub IsSearchOf-settle : (state : State) (source node : ℕ) (tree reaches : List Reach) (distances : List ℕ) (settled : List Bool) (waiting : List (Reverse ℕ × ℕ))
+    → IsSearchOf state source node tree reaches distances settled waiting → IsRelaxedFrom state distances node → pos 0 ≤ℤ excess_at state.excess.items node
+    → (v : ℕ) (waiting' : List (Reverse ℕ × ℕ)) → v < state.network.now.nodes → is_settled settled v ≡ false → distance_at distances v < unreached
+    → ((u : ℕ) → u < state.network.now.nodes → is_settled settled u ≡ false → distance_at distances v ≤ distance_at distances u)
     → ((d u : ℕ) → Waits waiting' d u → Waits waiting d u)
     → ((d u : ℕ) → Waits waiting d u → is_settled settled u ≡ false → u ≢ v → Waits waiting' d u)
-    → IsSearchOf net state source v (tree ++ reach_at reaches v ∷ []) reaches distances (slice_set settled v true) waiting'
-IsSearchOf-settle net state source node tree reaches distances settled waiting good search done calm v waiting' v_in unsettled less nearest only kept =
+    → IsSearchOf state source v (tree ++ reach_at reaches v ∷ []) reaches distances (slice_set settled v true) waiting'
+IsSearchOf-settle state source node tree reaches distances settled waiting search done calm v waiting' v_in unsettled less nearest only kept =
     let is_tree = search.is_tree in
     let r : Reach = reach_at reaches v in
     let reached = search.candidates v v_in unsettled less in
@@ -208,7 +208,7 @@ IsSearchOf-settle net state source node tree reaches distances settled waiting g
     let long : length (tree ++ r ∷ []) ≡ length tree + 1 = length_push tree r in
     let last : length (tree ++ r ∷ []) - 1 ≡ length tree = omega (arith, long) in
     record {
-      is_tree = IsTree-grown net state source tree distances settled good is_tree r v v_in unsettled reached;
+      is_tree = IsTree-grown state source tree distances settled is_tree r v v_in unsettled reached;
       distances_long = search.distances_long;
       reaches_long = search.reaches_long;
       node_in = v_in;
@@ -216,7 +216,7 @@ IsSearchOf-settle net state source node tree reaches distances settled waiting g
       node_last = rw (last, grown-new tree r) reached.node;
       candidates = λ u u_in uns reached_u.
           let was = search.candidates u u_in (unmarked settled v in_settled u uns).1 reached_u in
-          IsReach-grown tree r net state distances (length (tree ++ r ∷ [])) (reach_at reaches u) u was.from (IsReach-wider net state tree distances (length tree) (length (tree ++ r ∷ [])) (reach_at reaches u) u (omega (arith, long)) was);
+          IsReach-grown tree r state distances (length (tree ++ r ∷ [])) (reach_at reaches u) u was.from (IsReach-wider state tree distances (length tree) (length (tree ++ r ∷ [])) (reach_at reaches u) u (omega (arith, long)) was);
       nearer = λ u s. elim (marked-cases settled v in_settled u s) [
         | inl e ↦ rw e (omega arith)
         | inr old ↦ omega (arith, search.nearer u old.1, search.further v v_in unsettled)

@@ -1,8 +1,11 @@
 -- Lowering the potentials of nodes one after another.
 use Rattle.std.proofs.Common.{◌≡◌, ◌≢◌, ℕ, rules, ◌^◌, ◌+◌, ◌<◌, List, length, sym, ap, ◌∙◌, arith, below_more, get_or-set_same, get_or-set_other}
-use Rattle.std.specs.Prelude.{ℤ, pos, ◌+ℤ◌, ◌-ℤ◌, ◌≤ℤ◌, FitsSigned, slice_set}
+use Rattle.std.specs.Prelude.{ℤ, pos, ◌+ℤ◌, ◌-ℤ◌, ◌≤ℤ◌, ◌↔◌, true, eqb, FitsSigned, slice_set}
 use Rattle.std.specs.Int.{w64}
 use Rattle.flow_solver.specs.State.{IsWithin}
+use Rattle.std.proofs.Common.{to_z, of_z}
+use Rattle.std.proofs.lemmas.Bool.{eqb-true, eq-eqb}
+use Rattle.std.proofs.lemmas.Int.{to_z-of_z}
 use Rattle.std.proofs.Math.ListN.{length-set}
 use Rattle.bounded_network.specs.Network.{potential_at}
 
@@ -32,3 +35,7 @@ within_fits z h =
     let low : pos 0 ≤ℤ (z +ℤ pos (2 ^ 60)) = h.low in
     let high : z ≤ℤ pos (2 ^ 60) = h.high in
     search rules
+
+-- a signed number is 0 exactly where its bits are
+pub zero_bits : (z : ℤ) → FitsSigned w64 z → (eqb (of_z w64 z) 0 ≡ true) ↔ (z ≡ pos 0)
+zero_bits z fits = (λ same. sym (to_z-of_z w64 z fits) ∙ ap (to_z w64) (eqb-true (of_z w64 z) 0 same), λ none. eq-eqb (of_z w64 z) 0 (ap (of_z w64) none))

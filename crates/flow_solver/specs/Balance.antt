@@ -4,11 +4,11 @@ use Rattle.bounded_network.specs.Network.{NetworkValue, AreViolated}
 use Rattle.flow_solver.specs.declared.balance.Balance.{Balance}
 use Rattle.flow_solver.specs.declared.balance.Balance.TheVariants.{Even, Cut, GivenUp}
 use Rattle.flow_solver.specs.declared.state.State.{State}
-use Rattle.flow_solver.specs.State.{IsState, excess_at}
+use Rattle.flow_solver.specs.State.{excess_at}
 
--- a state in which no node has an excess
+-- a state of the network in which no node has an excess
 pub record IsBalanced (net : NetworkValue) (state : State) : Type 0 where
-  pub kept : IsState net state.flow.items state.excess.items state.potentials.items
+  pub network : state.network.now ≡ net
   pub even : (v : ℕ) → v < net.nodes → excess_at state.excess.items v ≤ℤ pos 0
 
 -- violated marks, one a node

@@ -1,6 +1,8 @@
 pub mod Balance
 pub mod Blocking
+pub mod Calm
 pub mod Coarse
+pub mod Costs
 pub mod Links
 pub mod Queue
 pub mod Search

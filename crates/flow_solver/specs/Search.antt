@@ -34,63 +34,63 @@ abbrev pub height_at : State → List ℕ → ℕ → ℤ
 height_at state distances v = potential_at state.potentials.items v +ℤ pos (distance_at distances v)
 
 -- how a node is reached: by a step from a place of the tree below the limit, that can carry the width
-pub record IsReach (net : NetworkValue) (state : State) (tree : List Reach) (distances : List ℕ) (limit : ℕ) (reach : Reach) (v : ℕ) : Type 0 where
+pub record IsReach (state : State) (tree : List Reach) (distances : List ℕ) (limit : ℕ) (reach : Reach) (v : ℕ) : Type 0 where
   pub node : reach.node ≡ v
   pub from : reach.from < limit
-  pub arc : reach.step.arc < length net.arcs
-  pub starts : start_of (arc_at net reach.step.arc) reach.step.forward ≡ (reach_at tree reach.from).node
-  pub ends : end_of (arc_at net reach.step.arc) reach.step.forward ≡ v
-  pub distance : pos (distance_at distances v) ≡ pos (distance_at distances (reach_at tree reach.from).node) +ℤ step_reduced (arc_at net reach.step.arc) reach.step.forward state.potentials.items
+  pub arc : reach.step.arc < length state.network.now.arcs
+  pub starts : start_of (arc_at state.network.now reach.step.arc) reach.step.forward ≡ (reach_at tree reach.from).node
+  pub ends : end_of (arc_at state.network.now reach.step.arc) reach.step.forward ≡ v
+  pub distance : pos (distance_at distances v) ≡ pos (distance_at distances (reach_at tree reach.from).node) +ℤ step_reduced (arc_at state.network.now reach.step.arc) reach.step.forward state.potentials.items
   pub some : 0 < reach.width
-  pub left : reach.width ≤ left_on (arc_at net reach.step.arc) (slice_index state.flow.items reach.step.arc) reach.step.forward
+  pub left : reach.width ≤ left_on (arc_at state.network.now reach.step.arc) (slice_index state.flow.items reach.step.arc) reach.step.forward
   pub narrow : reach.width ≤ (reach_at tree reach.from).width
 
 -- if the step over the arc starts at the node and has room, its end is no further than by way of the step
-abbrev pub IsRelaxed : NetworkValue → State → List ℕ → ℕ → ℕ → Bool → Type 0
-IsRelaxed net state distances v a forward =
-    start_of (arc_at net a) forward ≡ v → 0 < left_on (arc_at net a) (slice_index state.flow.items a) forward
-    → pos (distance_at distances (end_of (arc_at net a) forward)) ≤ℤ (pos (distance_at distances v) +ℤ step_reduced (arc_at net a) forward state.potentials.items)
+abbrev pub IsRelaxed : State → List ℕ → ℕ → ℕ → Bool → Type 0
+IsRelaxed state distances v a forward =
+    start_of (arc_at state.network.now a) forward ≡ v → 0 < left_on (arc_at state.network.now a) (slice_index state.flow.items a) forward
+    → pos (distance_at distances (end_of (arc_at state.network.now a) forward)) ≤ℤ (pos (distance_at distances v) +ℤ step_reduced (arc_at state.network.now a) forward state.potentials.items)
 
 -- so it is over each arc
-abbrev pub IsRelaxedFrom : NetworkValue → State → List ℕ → ℕ → Type 0
-IsRelaxedFrom net state distances v = (a : ℕ) (forward : Bool) → a < length net.arcs → IsRelaxed net state distances v a forward
+abbrev pub IsRelaxedFrom : State → List ℕ → ℕ → Type 0
+IsRelaxedFrom state distances v = (a : ℕ) (forward : Bool) → a < length state.network.now.arcs → IsRelaxed state distances v a forward
 
 -- the tree of the settled nodes
-pub record IsTree (net : NetworkValue) (state : State) (source : ℕ) (tree : List Reach) (distances : List ℕ) (settled : List Bool) : Type 0 where
-  pub settled_long : length settled ≡ net.nodes
-  pub counted : count_below net.nodes (λ v. when (is_settled settled v) 1) ≡ length tree
+pub record IsTree (state : State) (source : ℕ) (tree : List Reach) (distances : List ℕ) (settled : List Bool) : Type 0 where
+  pub settled_long : length settled ≡ state.network.now.nodes
+  pub counted : count_below state.network.now.nodes (λ v. when (is_settled settled v) 1) ≡ length tree
   pub some : 0 < length tree
   pub root : (reach_at tree 0).node ≡ source
   pub root_distance : distance_at distances source ≡ 0
   pub root_width : pos (reach_at tree 0).width ≤ℤ excess_at state.excess.items source
   pub root_some : 0 < (reach_at tree 0).width
-  pub nodes : (i : ℕ) → i < length tree → (reach_at tree i).node < net.nodes
+  pub nodes : (i : ℕ) → i < length tree → (reach_at tree i).node < state.network.now.nodes
   pub are_settled : (i : ℕ) → i < length tree → is_settled settled (reach_at tree i).node ≡ true
   pub places : (v : ℕ) → is_settled settled v ≡ true → (i : ℕ) × (i < length tree) × ((reach_at tree i).node ≡ v)
   pub separate : (i j : ℕ) → i < j → j < length tree → (reach_at tree i).node ≢ (reach_at tree j).node
-  pub reaches : (i : ℕ) → 0 < i → i < length tree → IsReach net state tree distances i (reach_at tree i) (reach_at tree i).node
+  pub reaches : (i : ℕ) → 0 < i → i < length tree → IsReach state tree distances i (reach_at tree i) (reach_at tree i).node
   pub apart : (i j : ℕ) → 0 < i → i < j → j < length tree → (reach_at tree i).step.arc ≢ (reach_at tree j).step.arc
   pub near : (u v : ℕ) → is_settled settled u ≡ true → is_settled settled v ≡ true → height_at state distances u ≤ℤ (height_at state distances v +ℤ pos (8000000000 * (length tree - 1)))
 
 -- the search after the node was settled, and before all its steps are relaxed
-pub record IsSearchOf (net : NetworkValue) (state : State) (source node : ℕ) (tree reaches : List Reach) (distances : List ℕ) (settled : List Bool) (waiting : List (Reverse ℕ × ℕ)) : Type 0 where
-  pub is_tree : IsTree net state source tree distances settled
-  pub distances_long : length distances ≡ net.nodes
-  pub reaches_long : length reaches ≡ net.nodes
-  pub node_in : node < net.nodes
+pub record IsSearchOf (state : State) (source node : ℕ) (tree reaches : List Reach) (distances : List ℕ) (settled : List Bool) (waiting : List (Reverse ℕ × ℕ)) : Type 0 where
+  pub is_tree : IsTree state source tree distances settled
+  pub distances_long : length distances ≡ state.network.now.nodes
+  pub reaches_long : length reaches ≡ state.network.now.nodes
+  pub node_in : node < state.network.now.nodes
   pub node_settled : is_settled settled node ≡ true
   pub node_last : (reach_at tree (length tree - 1)).node ≡ node
-  pub candidates : (v : ℕ) → v < net.nodes → is_settled settled v ≡ false → distance_at distances v < unreached → IsReach net state tree distances (length tree) (reach_at reaches v) v
+  pub candidates : (v : ℕ) → v < state.network.now.nodes → is_settled settled v ≡ false → distance_at distances v < unreached → IsReach state tree distances (length tree) (reach_at reaches v) v
   pub nearer : (v : ℕ) → is_settled settled v ≡ true → distance_at distances v ≤ distance_at distances node
-  pub further : (v : ℕ) → v < net.nodes → is_settled settled v ≡ false → distance_at distances node ≤ distance_at distances v
-  pub queued : (d v : ℕ) → Waits waiting d v → (v < net.nodes) × (distance_at distances v ≤ d) × (d < unreached)
-  pub waits : (v : ℕ) → v < net.nodes → is_settled settled v ≡ false → distance_at distances v < unreached → Waits waiting (distance_at distances v) v
-  pub relaxed : (v : ℕ) → is_settled settled v ≡ true → v ≢ node → IsRelaxedFrom net state distances v
+  pub further : (v : ℕ) → v < state.network.now.nodes → is_settled settled v ≡ false → distance_at distances node ≤ distance_at distances v
+  pub queued : (d v : ℕ) → Waits waiting d v → (v < state.network.now.nodes) × (distance_at distances v ≤ d) × (d < unreached)
+  pub waits : (v : ℕ) → v < state.network.now.nodes → is_settled settled v ≡ false → distance_at distances v < unreached → Waits waiting (distance_at distances v) v
+  pub relaxed : (v : ℕ) → is_settled settled v ≡ true → v ≢ node → IsRelaxedFrom state distances v
   pub calm : (v : ℕ) → is_settled settled v ≡ true → v ≢ node → pos 0 ≤ℤ excess_at state.excess.items v
 
-abbrev pub IsSearch : NetworkValue → State → Search → Type 0
-IsSearch net state search =
-    IsSearchOf net state search.source search.node search.tree.items search.reaches.items search.distances.items search.settled.items (heap_items search.queue.waiting)
+abbrev pub IsSearch : State → Search → Type 0
+IsSearch state search =
+    IsSearchOf state search.source search.node search.tree.items search.reaches.items search.distances.items search.settled.items (heap_items search.queue.waiting)
 
 -- the settled nodes and their tree are the same
 pub record SameTree (old new : Search) : Type 0 where
@@ -100,23 +100,23 @@ pub record SameTree (old new : Search) : Type 0 where
   pub settled : new.settled.items ≡ old.settled.items
 
 -- the search went on from the node that was settled last: its tree is the same, and no distance rose
-pub record Relaxes (net : NetworkValue) (state : State) (old new : Search) : Type 0 where
+pub record Relaxes (state : State) (old new : Search) : Type 0 where
   pub same : SameTree old new
-  pub search : IsSearch net state new
+  pub search : IsSearch state new
   pub lower : (v : ℕ) → distance_at new.distances.items v ≤ distance_at old.distances.items v
   pub stays : distance_at new.distances.items old.node ≡ distance_at old.distances.items old.node
 
 -- a node with a deficit was settled last
-pub record IsFound (net : NetworkValue) (state : State) (search : Search) : Type 0 where
-  pub search_kept : IsSearch net state search
+pub record IsFound (state : State) (search : Search) : Type 0 where
+  pub search_kept : IsSearch state search
   pub deficit : excess_at state.excess.items search.node <ℤ pos 0
 
 -- no step with room leaves the settled nodes, and none of them has a deficit
-pub record IsClosed (net : NetworkValue) (state : State) (source : ℕ) (settled : List Bool) : Type 0 where
-  pub long : length settled ≡ net.nodes
+pub record IsClosed (state : State) (source : ℕ) (settled : List Bool) : Type 0 where
+  pub long : length settled ≡ state.network.now.nodes
   pub source_settled : is_settled settled source ≡ true
   pub calm : (v : ℕ) → is_settled settled v ≡ true → pos 0 ≤ℤ excess_at state.excess.items v
-  pub closed : AreClosed net state.flow.items settled
+  pub closed : AreClosed state.network.now state.flow.items settled
 
 -- the node is neither reached nor settled
 pub record IsCleared (distances : List ℕ) (settled : List Bool) (v : ℕ) : Type 0 where

@@ -17,7 +17,8 @@ excess_at excess v = slice_index_or excess v (pos 0)
 abbrev pub AreBounded : NetworkValue → List ℤ → Type 0
 AreBounded net potentials = (v : ℕ) → v < net.nodes → IsWithin (8000000000 * net.nodes) (potential_at potentials v)
 
--- each amount is within its bounds, each excess is what enters less what leaves, and the potentials are optimal
+-- each amount is within its bounds, each excess is what enters less what leaves, and the potentials are optimal: no step that
+-- can carry more has a negative reduced cost
 pub record IsState (net : NetworkValue) (flow : List ℕ) (excess : List ℤ) (potentials : List ℤ) : Type 0 where
   pub flow_long : length flow ≡ length net.arcs
   pub excess_long : length excess ≡ net.nodes

@@ -3,7 +3,7 @@ ghost use Rattle.std.specs.Prelude.{◌≡◌, Ok, IfOk, IfErr, IsNone};
 ghost use Rattle.flow_solver.specs.declared.balance.Balance.TheVariants.{GivenUp};
 ghost use Rattle.flow_solver.specs.Balance.{IsBalanced, AreExcluding, Balances};
 ghost use Rattle.residual_arcs.specs.Links.{AreLinks};
-ghost use Rattle.flow_solver.specs.State.{IsState, AreCalm};
+ghost use Rattle.flow_solver.specs.Calm.{IsCalm};
 
 use crate::blank::blank;
 use crate::blocking::block;
@@ -23,9 +23,9 @@ const PATIENCE: usize = 20;
 
 /// What came of all excesses.
 #[derive(Drop)]
-pub enum Balance {
+pub enum Balance<'a> {
     /// The state without an excess.
-    Even(State),
+    Even(State<'a>),
     /// Marks of nodes that can't get rid of an excess.
     Cut(Vec<bool>),
     /// The patience was at its end.
@@ -33,22 +33,20 @@ pub enum Balance {
 }
 
 // Carries all excesses of the state away, for as long as the patience lasts.
-fn drain_all(
+fn drain_all<'a>(
     alloc: Global,
-    net: &Network,
     links: &Links,
-    mut state: State,
+    mut state: State<'a>,
     mut patience: Option<usize>,
-) -> Result<Balance, AllocError>
-    requires kept { IsState net.now state.flow.items state.excess.items state.potentials.items }
-    requires calm { AreCalm net.now state.excess.items state.potentials.items }
-    requires links { AreLinks net.now links.now }
-    ensures balances { IfOk result (Balances net.now) }
+) -> Result<Balance<'a>, AllocError>
+    requires calm { IsCalm state }
+    requires links { AreLinks state.network.now links.now }
+    ensures balances { IfOk result (Balances state.entry.network.now) }
     ensures patient { IsNone patience → ¬ (result ≡ Ok GivenUp) }
 {
-    let mut search = blank(alloc, net)?;
-    for source in 0..net.nodes() {
-        match drain(net, links, &mut state, &mut search, source, &mut patience)? {
+    let mut search = blank(alloc, state.network)?;
+    for source in 0..state.network.nodes() {
+        match drain(links, &mut state, &mut search, source, &mut patience)? {
             Outcome::Drained => {}
             Outcome::Stuck => return Ok(Balance::Cut(search.settled)),
             Outcome::GivenUp => return Ok(Balance::GivenUp),
@@ -58,11 +56,11 @@ fn drain_all(
 }
 
 // The same from the potentials of a coarse solution, which often shows at once that there is no circulation.
-fn balanced_anew(
+fn balanced_anew<'a>(
     alloc: Global,
-    net: &Network,
+    net: &'a Network,
     links: &Links,
-) -> Result<Result<State, Vec<bool>>, AllocError>
+) -> Result<Result<State<'a>, Vec<bool>>, AllocError>
     requires links { AreLinks net.now links.now }
     ensures balanced { IfOk result (λ answer. IfOk answer (IsBalanced net.now)) }
     ensures excluding { IfOk result (λ answer. IfErr answer (λ marks. AreExcluding net.now marks.items)) }
@@ -74,8 +72,8 @@ fn balanced_anew(
         return Ok(Err(marks));
     }
     let mut state = start_at(alloc, net, potentials)?;
-    block(alloc, net, links, &mut state)?;
-    match drain_all(alloc, net, links, state, None)? {
+    block(alloc, links, &mut state)?;
+    match drain_all(alloc, links, state, None)? {
         Balance::Even(state) => Ok(Ok(state)),
         Balance::Cut(marks) => Ok(Err(marks)),
         Balance::GivenUp => unreachable!(),
@@ -93,20 +91,19 @@ fn patience_for(net: &Network) -> Option<usize> {
 
 /// A balanced state, or marks that show that there is none. It begins at plain potentials. Where little work isn't enough
 /// there, it begins anew at those of a coarse solution: they take longer to find, and the rest of the work is less.
-pub fn balanced(
+pub fn balanced<'a>(
     alloc: Global,
-    net: &Network,
+    net: &'a Network,
     links: &Links,
-) -> Result<Result<State, Vec<bool>>, AllocError>
+) -> Result<Result<State<'a>, Vec<bool>>, AllocError>
     requires links { AreLinks net.now links.now }
     ensures balanced { IfOk result (λ answer. IfOk answer (IsBalanced net.now)) }
     ensures excluding { IfOk result (λ answer. IfErr answer (λ marks. AreExcluding net.now marks.items)) }
 {
-    let _nodes = net.nodes();
     let potentials = first_potentials(alloc, net)?;
     let mut state = start_at(alloc, net, potentials)?;
-    block(alloc, net, links, &mut state)?;
-    match drain_all(alloc, net, links, state, patience_for(net))? {
+    block(alloc, links, &mut state)?;
+    match drain_all(alloc, links, state, patience_for(net))? {
         Balance::Even(state) => Ok(Ok(state)),
         Balance::Cut(marks) => Ok(Err(marks)),
         Balance::GivenUp => balanced_anew(alloc, net, links),

@@ -4,7 +4,7 @@ ghost use Rattle.std.specs.BinaryHeap.{heap_items};
 ghost use Rattle.bounded_network.specs.Network.{IsNetwork};
 ghost use Rattle.flow_solver.specs.Queue.{Waits};
 ghost use Rattle.flow_solver.specs.Search.{IsBlank, IsClearable, IsCleared, IsSearch, reach_at};
-ghost use Rattle.flow_solver.specs.State.{IsState, excess_at};
+ghost use Rattle.flow_solver.specs.State.{excess_at};
 
 use crate::queue::{self, Queue, empty, waiting};
 use crate::search::{Reach, Search, UNREACHED, width_of};
@@ -44,21 +44,14 @@ pub fn blank(alloc: Global, net: &Network) -> Result<Search, AllocError>
 }
 
 /// Begins a search: its source alone is settled.
-pub fn set_out(
-    net: &Network,
-    state: &State,
-    search: &mut Search,
-    source: u32,
-) -> Result<(), AllocError>
-    requires kept { IsState net.now state.now.flow.items state.now.excess.items state.now.potentials.items }
-    requires blank { IsBlank net.now search.old }
-    requires source_in { source < net.now.nodes }
+pub fn set_out(state: &State<'_>, search: &mut Search, source: u32) -> Result<(), AllocError>
+    requires blank { IsBlank state.now.network.now search.old }
+    requires source_in { source < state.now.network.now.nodes }
     requires rich { pos 0 <ℤ excess_at state.now.excess.items source }
-    ensures search { OnOk result (IsSearch net.now state.now search.new) }
+    ensures search { OnOk result (IsSearch state.now search.new) }
     ensures source { OnOk result (search.new.source ≡ source) }
     ensures node { OnOk result (search.new.node ≡ source) }
 {
-    let _nodes = net.nodes();
     search.tree.push(Reach {
         node: source,
         from: 0,

@@ -6,6 +6,7 @@
 ghost use Rattle.std.specs.Prelude.{◌≡◌, ◌<◌, length, ℕ, IfOk, OnOk, All};
 ghost use Rattle.bounded_network.specs.Network.{potential_at};
 ghost use Rattle.flow_solver.specs.Coarse.{IsCoarse};
+ghost use Rattle.flow_solver.specs.Costs.{IsGreatestCost};
 ghost use Rattle.residual_arcs.specs.Links.{AreLinks};
 ghost use Rattle.flow_solver.specs.State.{IsWithin};
 
@@ -30,11 +31,12 @@ pub struct Coarse {
 }
 
 /// The greatest magnitude of a cost.
-pub fn greatest_cost(net: &Network) -> i64 {
-    let mut greatest = 0;
+pub fn greatest_cost(net: &Network) -> u64
+    ensures { IsGreatestCost net.now result }
+{
+    let mut greatest: u64 = 0;
     for place in 0..arc_count(net) {
-        let cost = arc_of(net, place).cost;
-        greatest = cost.max(-cost).max(greatest);
+        greatest = arc_of(net, place).cost.unsigned_abs().max(greatest);
     }
     greatest
 }

@@ -4,7 +4,8 @@ ghost use Rattle.bounded_network.specs.Network.{AreViolated};
 ghost use Rattle.flow_solver.specs.declared.drain.Outcome.TheVariants.{Drained, Stuck, GivenUp};
 ghost use Rattle.residual_arcs.specs.Links.{AreLinks};
 ghost use Rattle.flow_solver.specs.Search.{IsBlank, reach_at};
-ghost use Rattle.flow_solver.specs.State.{IsState, AreCalm, excess_at};
+ghost use Rattle.flow_solver.specs.State.{excess_at};
+ghost use Rattle.flow_solver.specs.Calm.{IsCalm};
 
 use crate::blank::{clear, set_out};
 use crate::path::augment;
@@ -29,36 +30,34 @@ fn arcs_at(net: &Network, links: &Links, tree: &[Reach]) -> usize
 /// Carries as much as one path takes from the source to the nearest node with a deficit, and says how many links
 /// the search went over. Nothing is carried where no such node is reached: the settled nodes then can't get rid of the excess.
 pub fn carry_once(
-    net: &Network,
     links: &Links,
-    state: &mut State,
+    state: &mut State<'_>,
     search: &mut Search,
     source: u32,
 ) -> Result<Option<usize>, AllocError>
-    requires kept { IsState net.now state.old.flow.items state.old.excess.items state.old.potentials.items }
-    requires calm { AreCalm net.now state.old.excess.items state.old.potentials.items }
-    requires links { AreLinks net.now links.now }
-    requires blank { IsBlank net.now search.old }
-    requires source_in { source < net.now.nodes }
+    requires calm { IsCalm state.old }
+    requires links { AreLinks state.old.network.now links.now }
+    requires blank { IsBlank state.old.network.now search.old }
+    requires source_in { source < state.old.network.now.nodes }
     requires rich { pos 0 <ℤ excess_at state.old.excess.items source }
-    ensures kept { IsState net.now state.new.flow.items state.new.excess.items state.new.potentials.items }
-    ensures calm { AreCalm net.now state.new.excess.items state.new.potentials.items }
+    ensures network { state.new.network.now ≡ state.old.network.now }
+    ensures calm { IsCalm state.new }
     ensures others { (v : ℕ) → excess_at state.old.excess.items v ≤ℤ pos 0 → excess_at state.new.excess.items v ≤ℤ pos 0 }
-    ensures blank { IfOk result (λ scanned. IfSome scanned (λ count. IsBlank net.now search.new)) }
+    ensures blank { IfOk result (λ scanned. IfSome scanned (λ count. IsBlank state.old.network.now search.new)) }
     ensures decreases { IfOk result (λ scanned. IfSome scanned (λ count. excess_at state.new.excess.items source <ℤ excess_at state.old.excess.items source)) }
     ensures rich { IfOk result (λ scanned. IfSome scanned (λ count. pos 0 ≤ℤ excess_at state.new.excess.items source)) }
-    ensures violated { IfOk result (λ scanned. IfNone scanned (AreViolated net.now search.new.settled.items)) }
-    ensures long { IfOk result (λ scanned. IfNone scanned (length search.new.settled.items ≡ net.now.nodes)) }
+    ensures violated { IfOk result (λ scanned. IfNone scanned (AreViolated state.old.network.now search.new.settled.items)) }
+    ensures long { IfOk result (λ scanned. IfNone scanned (length search.new.settled.items ≡ state.old.network.now.nodes)) }
 {
-    let _nodes = net.nodes();
-    set_out(net, state, search, source)?;
-    let found = run(net, links, state, search)?;
+    let network = state.network;
+    set_out(state, search, source)?;
+    let found = run(links, state, search)?;
     if !found {
         return Ok(None);
     }
-    let scanned = arcs_at(net, links, &search.tree);
-    augment(net, state, search);
-    clear(net, search);
+    let scanned = arcs_at(network, links, &search.tree);
+    augment(state, search);
+    clear(network, search);
     Ok(Some(scanned))
 }
 
@@ -89,30 +88,27 @@ fn is_spent(patience: &mut Option<usize>, scanned: usize) -> bool
 /// Carries away what the source has too much, for as long as the patience lasts: so many links may be gone over, or
 /// any number where it is `None`.
 pub fn drain(
-    net: &Network,
     links: &Links,
-    state: &mut State,
+    state: &mut State<'_>,
     search: &mut Search,
     source: u32,
     patience: &mut Option<usize>,
 ) -> Result<Outcome, AllocError>
-    requires kept { IsState net.now state.old.flow.items state.old.excess.items state.old.potentials.items }
-    requires calm { AreCalm net.now state.old.excess.items state.old.potentials.items }
-    requires links { AreLinks net.now links.now }
-    requires blank { IsBlank net.now search.old }
-    requires source_in { source < net.now.nodes }
-    ensures kept { IsState net.now state.new.flow.items state.new.excess.items state.new.potentials.items }
-    ensures calm { AreCalm net.now state.new.excess.items state.new.potentials.items }
+    requires calm { IsCalm state.old }
+    requires links { AreLinks state.old.network.now links.now }
+    requires blank { IsBlank state.old.network.now search.old }
+    requires source_in { source < state.old.network.now.nodes }
+    ensures network { state.new.network.now ≡ state.old.network.now }
+    ensures calm { IsCalm state.new }
     ensures others { (v : ℕ) → excess_at state.old.excess.items v ≤ℤ pos 0 → excess_at state.new.excess.items v ≤ℤ pos 0 }
-    ensures blank { result ≡ Ok Drained → IsBlank net.now search.new }
+    ensures blank { result ≡ Ok Drained → IsBlank state.old.network.now search.new }
     ensures drained { result ≡ Ok Drained → excess_at state.new.excess.items source ≤ℤ pos 0 }
-    ensures violated { result ≡ Ok Stuck → AreViolated net.now search.new.settled.items }
-    ensures long { result ≡ Ok Stuck → length search.new.settled.items ≡ net.now.nodes }
+    ensures violated { result ≡ Ok Stuck → AreViolated state.old.network.now search.new.settled.items }
+    ensures long { result ≡ Ok Stuck → length search.new.settled.items ≡ state.old.network.now.nodes }
     ensures patient { IsNone patience.old → IsNone patience.new × ¬ (result ≡ Ok GivenUp) }
 {
-    let _nodes = net.nodes();
     'draining: while state.excess[source as usize] > 0 {
-        let Some(scanned) = carry_once(net, links, state, search, source)? else {
+        let Some(scanned) = carry_once(links, state, search, source)? else {
             return Ok(Outcome::Stuck);
         };
         let spent = is_spent(patience, scanned);

@@ -1,18 +1,18 @@
 // How far the nodes are from a deficit, over steps of reduced cost 0.
-ghost use Rattle.std.specs.Prelude.{◌≡◌, ◌<◌, length, IfOk, OnOk, All};
+ghost use Rattle.std.specs.Prelude.{◌≡◌, ◌<◌, ◌↔◌, length, pos, IfOk, OnOk, IsTrue, All};
 ghost use Rattle.flow_solver.specs.Blocking.{AreLevels};
-ghost use Rattle.flow_solver.specs.Links.{IsLinkWithin};
+ghost use Rattle.flow_solver.specs.Links.{IsLinkWithin, reduced_over};
 ghost use Rattle.residual_arcs.specs.Links.{AreLinks};
-ghost use Rattle.flow_solver.specs.State.{IsState};
 
 use crate::links::link_of;
+use crate::push::cancels;
 use crate::state::{State, left_at};
 use bounded_network::Network;
 use residual_arcs::{Link, Links, Step};
 use std::alloc::{AllocError, Global};
 
 /// The level of a node that is not reached.
-pub const FAR: u32 = u32::MAX;
+pub const NO_LEVEL: u32 = u32::MAX;
 
 /// How many steps of reduced cost 0 lead from each node to a deficit, and the nodes that are reached, the nearest first.
 #[derive(Drop)]
@@ -21,14 +21,16 @@ pub struct Levels {
     pub reached: Vec<u32>,
 }
 
-/// Whether the reduced cost of the node's link is 0.
-pub fn is_even(net: &Network, state: &State, node: u32, link: Link) -> bool
-    requires kept { IsState net.now state.now.flow.items state.now.excess.items state.now.potentials.items }
-    requires node_in { node < net.now.nodes }
-    requires link { IsLinkWithin net.now link }
+/// Whether the reduced cost of the node's link is 0. Then its step is admissible where it can carry more, and so is the step
+/// back over it.
+pub fn is_admissible(state: &State<'_>, node: u32, link: Link) -> bool
+    requires node_in { node < state.now.network.now.nodes }
+    requires link { IsLinkWithin state.now.network.now link }
+    ensures { IsTrue result ↔ (reduced_over state.now.potentials.items node link ≡ pos 0) }
 {
-    let _nodes = net.nodes();
-    state.potentials[node as usize].saturating_add(link.cost) == state.potentials[link.to as usize]
+    let from = state.potentials[node as usize];
+    let to = state.potentials[link.to as usize];
+    cancels(link.cost, from, to)
 }
 
 // Notes the level of a node.
@@ -44,90 +46,74 @@ fn reach(net: &Network, levels: &mut Levels, node: u32, level: u32) -> Result<()
 }
 
 // Reaches the node that the link leads to, if a step of reduced cost 0 with room comes from there.
-fn reach_by(
-    net: &Network,
-    state: &State,
-    levels: &mut Levels,
-    node: u32,
-    link: Link,
-) -> Result<(), AllocError>
-    requires kept { IsState net.now state.now.flow.items state.now.excess.items state.now.potentials.items }
-    requires levels { AreLevels net.now levels.old }
-    requires node_in { node < net.now.nodes }
-    requires link { IsLinkWithin net.now link }
-    ensures { OnOk result (AreLevels net.now levels.new) }
+fn reach_by(state: &State<'_>, levels: &mut Levels, node: u32, link: Link) -> Result<(), AllocError>
+    requires levels { AreLevels state.now.network.now levels.old }
+    requires node_in { node < state.now.network.now.nodes }
+    requires link { IsLinkWithin state.now.network.now link }
+    ensures { OnOk result (AreLevels state.now.network.now levels.new) }
 {
-    let seen = levels.each[link.to as usize] != FAR;
-    if seen || !is_even(net, state, node, link) {
+    let seen = levels.each[link.to as usize] != NO_LEVEL;
+    if seen || !is_admissible(state, node, link) {
         return Ok(());
     }
     let back = Step {
         arc: link.step.arc,
         forward: !link.step.forward,
     };
-    if left_at(net, state, back) == 0 {
+    if left_at(state, back) == 0 {
         return Ok(());
     }
     let level = levels.each[node as usize].saturating_add(1);
-    reach(net, levels, link.to, level)
+    reach(state.network, levels, link.to, level)
 }
 
 // Reaches all nodes from which a step leads to the node.
 fn reach_from(
-    net: &Network,
     links: &Links,
-    state: &State,
+    state: &State<'_>,
     levels: &mut Levels,
     node: u32,
 ) -> Result<(), AllocError>
-    requires kept { IsState net.now state.now.flow.items state.now.excess.items state.now.potentials.items }
-    requires links { AreLinks net.now links.now }
-    requires levels { AreLevels net.now levels.old }
-    requires node_in { node < net.now.nodes }
-    ensures { OnOk result (AreLevels net.now levels.new) }
+    requires links { AreLinks state.now.network.now links.now }
+    requires levels { AreLevels state.now.network.now levels.old }
+    requires node_in { node < state.now.network.now.nodes }
+    ensures { OnOk result (AreLevels state.now.network.now levels.new) }
 {
     for place in links.starts[node as usize]..links.starts[node as usize + 1] {
-        let link = link_of(net, links, place);
-        reach_by(net, state, levels, node, link)?;
+        let link = link_of(state.network, links, place);
+        reach_by(state, levels, node, link)?;
     }
     Ok(())
 }
 
 // The nodes with a deficit, which are at level 0.
-fn deficits(alloc: Global, net: &Network, state: &State) -> Result<Levels, AllocError>
-    requires kept { IsState net.now state.now.flow.items state.now.excess.items state.now.potentials.items }
-    ensures { IfOk result (λ levels. AreLevels net.now levels) }
+fn deficits(alloc: Global, state: &State<'_>) -> Result<Levels, AllocError>
+    ensures { IfOk result (λ levels. AreLevels state.now.network.now levels) }
 {
     let mut levels = Levels {
-        each: vec![in alloc; FAR; net.nodes() as usize]?,
+        each: vec![in alloc; NO_LEVEL; state.network.nodes() as usize]?,
         reached: Vec::new(alloc),
     };
-    for node in 0..net.nodes() {
+    for node in 0..state.network.nodes() {
         if state.excess[node as usize] < 0 {
-            reach(net, &mut levels, node, 0)?;
+            reach(state.network, &mut levels, node, 0)?;
         }
     }
     Ok(levels)
 }
 
 /// The levels of all nodes. Each is reached once, so that as many rounds as there are nodes are enough.
-pub fn levels_of(
-    alloc: Global,
-    net: &Network,
-    links: &Links,
-    state: &State,
-) -> Result<Levels, AllocError>
-    requires kept { IsState net.now state.now.flow.items state.now.excess.items state.now.potentials.items }
-    requires links { AreLinks net.now links.now }
-    ensures { IfOk result (λ levels. AreLevels net.now levels) }
+pub fn levels_of(alloc: Global, links: &Links, state: &State<'_>) -> Result<Levels, AllocError>
+    requires links { AreLinks state.now.network.now links.now }
+    ensures { IfOk result (λ levels. AreLevels state.now.network.now levels) }
 {
-    let mut levels = deficits(alloc, net, state)?;
-    for place in 0..net.nodes() as usize {
+    let mut levels = deficits(alloc, state)?;
+    for place in 0..state.network.nodes() as usize {
         if place >= levels.reached.len() {
             break;
         }
         let node = levels.reached[place];
-        reach_from(net, links, state, &mut levels, node)?;
+        reach_from(links, state, &mut levels, node)?;
     }
     Ok(levels)
 }

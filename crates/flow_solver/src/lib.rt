@@ -10,7 +10,8 @@
 // from amounts that are optimal at the potentials where it starts and don't balance yet. Blocking passes (Dinic 1970) carry
 // away what steps of reduced cost 0 can. Each further path is found by Dijkstra's search. Where the searches go over too many
 // arcs, it starts anew at the potentials of a coarse solution by cost scaling (Goldberg and Tarjan 1990) with global updates
-// (Goldberg 1997), which also finds most of the marks. What is proved says nothing of the number of steps.
+// (Goldberg 1997), which also finds most of the marks. What is proved says nothing of the number of steps. The type of the
+// search's state keeps its amounts within their bounds, its excesses exact, and no negative reduced cost where more can flow.
 #![tactic(auto)]
 
 mod balance;

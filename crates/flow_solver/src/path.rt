@@ -2,18 +2,17 @@
 ghost use Rattle.std.specs.Prelude.{◌≡◌, ◌≢◌, ◌-◌, ◌*◌, ◌^◌, ◌<◌, ◌≤◌, length, ℕ, ℤ, pos, ◌+ℤ◌, ◌-ℤ◌, ◌≤ℤ◌, ◌<ℤ◌};
 ghost use Rattle.bounded_network.specs.Network.{IsNetwork, potential_at};
 ghost use Rattle.flow_solver.specs.Search.{IsFound, reach_at, distance_at};
-ghost use Rattle.flow_solver.specs.State.{IsWithin, IsState, IsShifted, AreCalm, excess_at};
+ghost use Rattle.flow_solver.specs.State.{IsWithin, IsShifted, excess_at};
 ghost use Rattle.flow_solver.specs.Path.{IsPath};
+ghost use Rattle.flow_solver.specs.Calm.{IsCalm};
 
 use crate::search::{Reach, Search, width_of};
 use crate::state::{State, carry};
-use bounded_network::Network;
 
 // Carries the amount along the tree from its root to its last node.
-fn carry_along(net: &Network, state: &mut State, tree: &[Reach], amount: u64)
-    requires kept { IsState net.now state.old.flow.items state.old.excess.items state.old.potentials.items }
-    requires path { IsPath net.now state.old tree.now amount }
-    ensures kept { IsState net.now state.new.flow.items state.new.excess.items state.new.potentials.items }
+fn carry_along(state: &mut State<'_>, tree: &[Reach], amount: u64)
+    requires path { IsPath state.old tree.now amount }
+    ensures network { state.new.network.now ≡ state.old.network.now }
     ensures shifted { IsShifted state.old.excess.items state.new.excess.items (reach_at tree.now 0).node (reach_at tree.now (length tree.now - 1)).node amount }
     ensures potentials { state.new.potentials.items ≡ state.old.potentials.items }
     ensures wide { amount ≤ (reach_at tree.now 0).width }
@@ -21,7 +20,7 @@ fn carry_along(net: &Network, state: &mut State, tree: &[Reach], amount: u64)
     let mut place = tree.len() - 1;
     while place > 0 {
         let reach = tree[place];
-        carry(net, state, reach.step, amount);
+        carry(state, reach.step, amount);
         place = reach.from as usize;
     }
 }
@@ -54,17 +53,15 @@ fn update_tree(potentials: &mut [i64], distances: &[u64], tree: &[Reach], depth:
 }
 
 // Lowers the potentials of the settled nodes, so that the steps of the tree have reduced cost 0.
-fn update_potentials(net: &Network, state: &mut State, search: &Search)
-    requires kept { IsState net.now state.old.flow.items state.old.excess.items state.old.potentials.items }
-    requires calm { AreCalm net.now state.old.excess.items state.old.potentials.items }
-    requires found { IsFound net.now state.old search.now }
-    ensures kept { IsState net.now state.new.flow.items state.new.excess.items state.new.potentials.items }
-    ensures calm { AreCalm net.now state.new.excess.items state.new.potentials.items }
+fn update_potentials(state: &mut State<'_>, search: &Search)
+    requires calm { IsCalm state.old }
+    requires found { IsFound state.old search.now }
+    ensures network { state.new.network.now ≡ state.old.network.now }
+    ensures calm { IsCalm state.new }
     ensures flow { state.new.flow.items ≡ state.old.flow.items }
     ensures excess { state.new.excess.items ≡ state.old.excess.items }
-    ensures path { (amount : ℕ) → amount ≤ (reach_at search.now.tree.items (length search.now.tree.items - 1)).width → IsPath net.now state.new search.now.tree.items amount }
+    ensures path { (amount : ℕ) → amount ≤ (reach_at search.now.tree.items (length search.now.tree.items - 1)).width → IsPath state.new search.now.tree.items amount }
 {
-    let _nodes = net.nodes();
     let depth = search.distances[search.node as usize];
     update_tree(
         &mut state.potentials,
@@ -85,19 +82,17 @@ pub fn deficit_of(excess: i128) -> u64
 }
 
 /// Carries as much as it can from the search's source to the node that it found.
-pub fn augment(net: &Network, state: &mut State, search: &Search)
-    requires kept { IsState net.now state.old.flow.items state.old.excess.items state.old.potentials.items }
-    requires calm { AreCalm net.now state.old.excess.items state.old.potentials.items }
-    requires found { IsFound net.now state.old search.now }
-    ensures kept { IsState net.now state.new.flow.items state.new.excess.items state.new.potentials.items }
-    ensures calm { AreCalm net.now state.new.excess.items state.new.potentials.items }
+pub fn augment(state: &mut State<'_>, search: &Search)
+    requires calm { IsCalm state.old }
+    requires found { IsFound state.old search.now }
+    ensures network { state.new.network.now ≡ state.old.network.now }
+    ensures calm { IsCalm state.new }
     ensures decreases { excess_at state.new.excess.items search.now.source <ℤ excess_at state.old.excess.items search.now.source }
     ensures rich { pos 0 ≤ℤ excess_at state.new.excess.items search.now.source }
     ensures others { (v : ℕ) → excess_at state.old.excess.items v ≤ℤ pos 0 → excess_at state.new.excess.items v ≤ℤ pos 0 }
 {
-    let _nodes = net.nodes();
-    update_potentials(net, state, search);
+    update_potentials(state, search);
     let deficit = deficit_of(state.excess[search.node as usize]);
     let amount = search.tree[search.tree.len() - 1].width.min(deficit);
-    carry_along(net, state, &search.tree, amount);
+    carry_along(state, &search.tree, amount);
 }

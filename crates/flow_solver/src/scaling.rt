@@ -13,7 +13,7 @@ use crate::global_update::update_globally;
 use crate::guess::first_potentials;
 use crate::refinement::refine;
 use crate::unit::{round_all, unit_of};
-use bounded_network::Network;
+use bounded_network::{MAX_COST, Network};
 use residual_arcs::Links;
 use std::alloc::{AllocError, Global};
 
@@ -24,7 +24,7 @@ const PHASES: u32 = 7;
 const SHRINKING: i64 = 8;
 
 // What part of the greatest cost the first epsilon is.
-const COARSEST: i64 = 16;
+const COARSEST: u64 = 16;
 
 // How many nodes a phase may discharge, for each node and arc.
 const EFFORT: usize = 64;
@@ -79,7 +79,7 @@ fn all_phases(
     ensures { IfOk result (λ coarse. IsCoarse net.now links.now coarse) }
 {
     let mut coarse = coarse_at(alloc, net, links, first_potentials(alloc, net)?)?;
-    let mut epsilon = greatest_cost(net) / COARSEST;
+    let mut epsilon = (greatest_cost(net).min(MAX_COST as u64) / COARSEST) as i64;
     for _phase in 0..PHASES {
         begin_phase(alloc, net, links, &mut coarse, epsilon.max(1))?;
         discharge_all(alloc, net, links, &mut coarse)?;

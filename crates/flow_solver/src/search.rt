@@ -5,14 +5,13 @@ ghost use Rattle.std.specs.BinaryHeap.{heap_items, heap_len};
 ghost use Rattle.bounded_network.specs.Network.{NetworkValue, IsNetwork, arc_at, potential_at};
 ghost use Rattle.residual_arcs.specs.Links.{AreLinks, IsLink, start_at};
 ghost use Rattle.flow_solver.specs.Queue.{Waits};
-ghost use Rattle.flow_solver.specs.State.{IsWithin, IsState, excess_at};
+ghost use Rattle.flow_solver.specs.State.{IsWithin, excess_at};
 ghost use Rattle.residual_arcs.specs.Step.{start_of, end_of, step_cost, left_on};
 ghost use Rattle.flow_solver.specs.Step.{step_reduced};
 ghost use Rattle.flow_solver.specs.Search.{IsSearch, IsRelaxed, IsRelaxedFrom, Relaxes, IsReach, SameTree, IsFound, IsClosed, distance_at, reach_at, is_settled};
 
 use crate::queue::{Queue, pop, push};
 use crate::state::{State, left_at};
-use bounded_network::Network;
 use residual_arcs::{Link, Links, Step};
 use std::alloc::AllocError;
 
@@ -51,29 +50,25 @@ fn reduced(cost: i64, from: i64, to: i64) -> i64
 }
 
 // The reduced cost of the link's step, from the node that was settled last.
-fn reduced_over(net: &Network, state: &State, search: &Search, link: Link) -> i64
-    requires kept { IsState net.now state.now.flow.items state.now.excess.items state.now.potentials.items }
-    requires node_in { search.now.node < net.now.nodes }
-    requires link { IsLink net.now link }
-    requires starts { start_at net.now link ≡ search.now.node }
-    ensures { result ≡ step_reduced (arc_at net.now link.step.arc) link.step.forward state.now.potentials.items }
+fn reduced_over(state: &State<'_>, search: &Search, link: Link) -> i64
+    requires node_in { search.now.node < state.now.network.now.nodes }
+    requires link { IsLink state.now.network.now link }
+    requires starts { start_at state.now.network.now link ≡ search.now.node }
+    ensures { result ≡ step_reduced (arc_at state.now.network.now link.step.arc) link.step.forward state.now.potentials.items }
 {
-    let _nodes = net.nodes();
     let from = state.potentials[search.node as usize];
     let to = state.potentials[link.to as usize];
     reduced(link.cost, from, to)
 }
 
 // The distance of the link's end by way of its step, from the node that was settled last.
-fn over(net: &Network, state: &State, search: &Search, link: Link, reduced: u64) -> u64
-    requires kept { IsState net.now state.now.flow.items state.now.excess.items state.now.potentials.items }
-    requires search { IsSearch net.now state.now search.now }
-    requires link { IsLink net.now link }
-    requires starts { start_at net.now link ≡ search.now.node }
-    requires reduced { pos reduced ≡ step_reduced (arc_at net.now link.step.arc) link.step.forward state.now.potentials.items }
-    ensures { pos result ≡ pos (distance_at search.now.distances.items search.now.node) +ℤ step_reduced (arc_at net.now link.step.arc) link.step.forward state.now.potentials.items }
+fn over(state: &State<'_>, search: &Search, link: Link, reduced: u64) -> u64
+    requires search { IsSearch state.now search.now }
+    requires link { IsLink state.now.network.now link }
+    requires starts { start_at state.now.network.now link ≡ search.now.node }
+    requires reduced { pos reduced ≡ step_reduced (arc_at state.now.network.now link.step.arc) link.step.forward state.now.potentials.items }
+    ensures { pos result ≡ pos (distance_at search.now.distances.items search.now.node) +ℤ step_reduced (arc_at state.now.network.now link.step.arc) link.step.forward state.now.potentials.items }
 {
-    let _nodes = net.nodes();
     search.distances[search.node as usize] + reduced
 }
 
@@ -116,25 +111,22 @@ fn by(search: &Search, step: Step, to: u32, left: u64) -> Reach
 // Notes that the link's end is reached by its step at the distance, if it isn't reached nearer and something is left on the
 // step. That is asked last, since most steps lead to no nearer node.
 fn reach_over(
-    net: &Network,
-    state: &State,
+    state: &State<'_>,
     search: &mut Search,
     link: Link,
     distance: u64,
 ) -> Result<(), AllocError>
-    requires kept { IsState net.now state.now.flow.items state.now.excess.items state.now.potentials.items }
-    requires search { IsSearch net.now state.now search.old }
-    requires link { IsLink net.now link }
-    requires starts { start_at net.now link ≡ search.old.node }
-    requires distance { pos distance ≡ pos (distance_at search.old.distances.items search.old.node) +ℤ step_reduced (arc_at net.now link.step.arc) link.step.forward state.now.potentials.items }
-    ensures relaxes { OnOk result (Relaxes net.now state.now search.old search.new) }
-    ensures relaxed { OnOk result (IsRelaxed net.now state.now search.new.distances.items search.old.node link.step.arc link.step.forward) }
+    requires search { IsSearch state.now search.old }
+    requires link { IsLink state.now.network.now link }
+    requires starts { start_at state.now.network.now link ≡ search.old.node }
+    requires distance { pos distance ≡ pos (distance_at search.old.distances.items search.old.node) +ℤ step_reduced (arc_at state.now.network.now link.step.arc) link.step.forward state.now.potentials.items }
+    ensures relaxes { OnOk result (Relaxes state.now search.old search.new) }
+    ensures relaxed { OnOk result (IsRelaxed state.now search.new.distances.items search.old.node link.step.arc link.step.forward) }
 {
-    let _nodes = net.nodes();
     if distance >= search.distances[link.to as usize] {
         return Ok(());
     }
-    let left = left_at(net, state, link.step);
+    let left = left_at(state, link.step);
     if left == 0 {
         return Ok(());
     }
@@ -144,39 +136,32 @@ fn reach_over(
 }
 
 // Relaxes the link's step, from the node that was settled last. Where the reduced cost is negative, nothing is left on it.
-fn relax(net: &Network, state: &State, search: &mut Search, link: Link) -> Result<(), AllocError>
-    requires kept { IsState net.now state.now.flow.items state.now.excess.items state.now.potentials.items }
-    requires search { IsSearch net.now state.now search.old }
-    requires link { IsLink net.now link }
-    requires starts { start_at net.now link ≡ search.old.node }
-    ensures relaxes { OnOk result (Relaxes net.now state.now search.old search.new) }
-    ensures relaxed { OnOk result (IsRelaxed net.now state.now search.new.distances.items search.old.node link.step.arc link.step.forward) }
+fn relax(state: &State<'_>, search: &mut Search, link: Link) -> Result<(), AllocError>
+    requires search { IsSearch state.now search.old }
+    requires link { IsLink state.now.network.now link }
+    requires starts { start_at state.now.network.now link ≡ search.old.node }
+    ensures relaxes { OnOk result (Relaxes state.now search.old search.new) }
+    ensures relaxed { OnOk result (IsRelaxed state.now search.new.distances.items search.old.node link.step.arc link.step.forward) }
 {
-    let reduced = reduced_over(net, state, search, link);
+    let reduced = reduced_over(state, search, link);
     if reduced < 0 {
         return Ok(());
     }
-    let distance = over(net, state, search, link, reduced as u64);
-    reach_over(net, state, search, link, distance)
+    let distance = over(state, search, link, reduced as u64);
+    reach_over(state, search, link, distance)
 }
 
 // Relaxes all steps from the node that was settled last.
-fn relax_all(
-    net: &Network,
-    links: &Links,
-    state: &State,
-    search: &mut Search,
-) -> Result<(), AllocError>
-    requires kept { IsState net.now state.now.flow.items state.now.excess.items state.now.potentials.items }
-    requires links { AreLinks net.now links.now }
-    requires search { IsSearch net.now state.now search.old }
+fn relax_all(links: &Links, state: &State<'_>, search: &mut Search) -> Result<(), AllocError>
+    requires links { AreLinks state.now.network.now links.now }
+    requires search { IsSearch state.now search.old }
     ensures same { OnOk result (SameTree search.old search.new) }
-    ensures search { OnOk result (IsSearch net.now state.now search.new) }
-    ensures relaxed { OnOk result (IsRelaxedFrom net.now state.now search.new.distances.items search.old.node) }
+    ensures search { OnOk result (IsSearch state.now search.new) }
+    ensures relaxed { OnOk result (IsRelaxedFrom state.now search.new.distances.items search.old.node) }
 {
     let node = search.node as usize;
     for place in links.starts[node]..links.starts[node + 1] {
-        relax(net, state, search, links.all[place])?;
+        relax(state, search, links.all[place])?;
     }
     Ok(())
 }
@@ -240,28 +225,21 @@ pub fn amount_of(excess: i128) -> u64
 }
 
 /// Settles nodes until one has a deficit, which is then settled last and gives `true`, or until nothing waits.
-pub fn run(
-    net: &Network,
-    links: &Links,
-    state: &State,
-    search: &mut Search,
-) -> Result<bool, AllocError>
-    requires kept { IsState net.now state.now.flow.items state.now.excess.items state.now.potentials.items }
-    requires links { AreLinks net.now links.now }
-    requires search { IsSearch net.now state.now search.old }
+pub fn run(links: &Links, state: &State<'_>, search: &mut Search) -> Result<bool, AllocError>
+    requires links { AreLinks state.now.network.now links.now }
+    requires search { IsSearch state.now search.old }
     requires calm { pos 0 ≤ℤ excess_at state.now.excess.items search.old.node }
     ensures source { OnOk result (search.new.source ≡ search.old.source) }
-    ensures found { IfOk result (λ found. OnTrue found (IsFound net.now state.now search.new)) }
-    ensures closed { IfOk result (λ found. OnFalse found (IsClosed net.now state.now search.new.source search.new.settled.items)) }
+    ensures found { IfOk result (λ found. OnTrue found (IsFound state.now search.new)) }
+    ensures closed { IfOk result (λ found. OnFalse found (IsClosed state.now search.new.source search.new.settled.items)) }
 {
-    let _nodes = net.nodes();
-    relax_all(net, links, state, search)?;
+    relax_all(links, state, search)?;
     while let Some((_, node)) = nearest(&mut search.queue, &search.settled) {
         settle(search, node)?;
         if state.excess[node as usize] < 0 {
             return Ok(true);
         }
-        relax_all(net, links, state, search)?;
+        relax_all(links, state, search)?;
     }
     Ok(false)
 }

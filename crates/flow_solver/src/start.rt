@@ -1,7 +1,8 @@
 // The state that the solver starts from.
 ghost use Rattle.std.specs.Prelude.{◌≡◌, ◌+◌, ◌*◌, ◌^◌, ◌<◌, ◌≤◌, length, ℕ, ℤ, pos, negsuc, ◌≤ℤ◌, ◌+ℤ◌, ◌-ℤ◌, slice_index, IfOk};
 ghost use Rattle.bounded_network.specs.Network.{IsArc, IsNetwork, arc_at, potential_at, reduced_cost};
-ghost use Rattle.flow_solver.specs.State.{IsWithin, IsState, Suits, AllSuit, AreExcesses};
+ghost use Rattle.flow_solver.specs.Calm.{IsCalm};
+ghost use Rattle.flow_solver.specs.State.{IsWithin, Suits, AllSuit, AreExcesses};
 
 use crate::state::{State, shift};
 use bounded_network::{Arc, Network};
@@ -68,15 +69,22 @@ fn first_excess(alloc: Global, net: &Network, flow: &[u64]) -> Result<Vec<i128>,
 }
 
 /// The state at the potentials, with each arc at its room or its floor.
-pub fn start_at(alloc: Global, net: &Network, potentials: Vec<i64>) -> Result<State, AllocError>
+pub fn start_at<'a>(
+    alloc: Global,
+    net: &'a Network,
+    potentials: Vec<i64>,
+) -> Result<State<'a>, AllocError>
     requires long { length potentials.items ≡ net.now.nodes }
     requires small { (v : ℕ) → v < net.now.nodes → IsWithin 8000000000 (potential_at potentials.items v) }
-    ensures kept { IfOk result (λ state. IsState net.now state.flow.items state.excess.items state.potentials.items) }
+    ensures network { IfOk result (λ state. state.network.now ≡ net.now) }
     ensures potentials { IfOk result (λ state. state.potentials.items ≡ potentials.items) }
+    ensures calm { IfOk result IsCalm }
 {
+    let _nodes = net.nodes();
     let flow = first_flow(alloc, net, &potentials)?;
     let excess = first_excess(alloc, net, &flow)?;
     Ok(State {
+        network: net,
         flow,
         excess,
         potentials,

@@ -1,25 +1,23 @@
 // The unit of the costs: what divides them all. Some best potentials are whole multiples of it, so that near ones are rounded.
 ghost use Rattle.std.specs.Prelude.{◌≡◌, length, ℕ};
+ghost use Rattle.std.specs.Int.{IsGcd};
 ghost use Rattle.bounded_network.specs.Network.{potential_at};
+ghost use Rattle.flow_solver.specs.Costs.{IsUnit};
 ghost use Rattle.flow_solver.specs.State.{IsWithin};
 
 use bounded_network::{MAX_COST, Network};
 use residual_arcs::{arc_count, arc_of};
 
-// No two numbers of 64 bits take more steps of Euclid's algorithm.
-const STEPS: u32 = 96;
-
 // How far apart the least and the greatest potential can be.
 const SPAN: u64 = 2 * MAX_COST as u64;
 
-// What divides both numbers (Euclid).
-fn common(first: u64, second: u64) -> u64 {
+// The greatest common divisor of the two numbers (Euclid).
+fn common(first: u64, second: u64) -> u64
+    ensures { IsGcd first second result }
+{
     let mut divisor = first;
     let mut rest = second;
-    for _step in 0..STEPS {
-        if rest == 0 {
-            return divisor;
-        }
+    while rest > 0 {
         let next = divisor % rest;
         divisor = rest;
         rest = next;
@@ -28,14 +26,12 @@ fn common(first: u64, second: u64) -> u64 {
 }
 
 /// What divides all costs, 0 where they are all 0.
-pub fn unit_of(net: &Network) -> u64 {
+pub fn unit_of(net: &Network) -> u64
+    ensures { IsUnit net.now result }
+{
     let mut unit: u64 = 0;
     for place in 0..arc_count(net) {
-        let cost = arc_of(net, place).cost;
-        let size = cost.max(-cost);
-        if size > 0 {
-            unit = common(size as u64, unit);
-        }
+        unit = common(arc_of(net, place).cost.unsigned_abs(), unit);
     }
     unit
 }

@@ -9,11 +9,10 @@ use Rattle.flow_solver.proofs.blank.set_out.Goals as goal
 
 pub returns-clause-search : goal.returns-clause-search
 returns-clause-search c =
-    let net = c.args.net.now in
     let blank = c.requires.blank in
-    let b : c.args.source < length c.args.state.now.excess.items = omega (arith, c.requires.source_in, c.requires.kept.excess_long) in
+    let b : c.args.source < length c.args.state.now.excess.items = omega (arith, c.requires.source_in, c.args.state.now.kept.excess_long) in
     let e : c.index.result.now ≡ excess_at c.args.state.now.excess.items c.args.source = get_or_read _ _ _ b c.index.ensures (pos 0) in
     let within : pos c.width_of.result ≤ℤ excess_at c.args.state.now.excess.items c.args.source = omega (arith, ints, c.width_of.ensures.within, e) in
     rw (c.in_ok-push.ensures.items, blank.tree)
-    (IsSearchOf-begin net c.args.state.now c.args.source _ c.args.search.now.reaches.items c.args.search.now.distances.items c.args.search.now.settled.items (heap_items c.args.search.now.queue.waiting)
+    (IsSearchOf-begin c.args.state.now c.args.source _ c.args.search.now.reaches.items c.args.search.now.distances.items c.args.search.now.settled.items (heap_items c.args.search.now.queue.waiting)
     c.requires.source_in refl c.width_of.ensures.some within blank.reaches_long blank.distances_long blank.settled_long blank.cleared blank.waiting)

@@ -8,7 +8,7 @@ use Rattle.flow_solver.proofs.blocking.most_between.Goals as goal
 
 pub deficit_of-requires-clause-small : goal.deficit_of-requires-clause-small
 deficit_of-requires-clause-small c =
-    let b : c.args.node < length c.args.state.now.excess.items = omega (arith, c.requires.kept.excess_long, c.requires.node_in) in
+    let b : c.args.node < length c.args.state.now.excess.items = omega (arith, c.args.state.now.kept.excess_long, c.requires.node_in) in
     let e : c.index-lacks.result.now ≡ excess_at c.args.state.now.excess.items c.args.node = get_or_read _ _ _ b c.index-lacks.ensures (pos 0) in
-    let small = excess_within c.args.net.now _ _ _ c.nodes-nodes.ensures.kept c.requires.kept c.args.node in
+    let small = excess_within c.args.state.now.network.now _ _ _ c.args.state.now.good c.args.state.now.kept c.args.node in
     record { low = omega (arith, ints, e, small.low); high = omega (arith, ints, e, small.high) }

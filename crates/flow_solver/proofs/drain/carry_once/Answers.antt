@@ -8,12 +8,12 @@ pub returns-then-not-found-clause-violated : goal.returns-then-not-found-clause-
 returns-then-not-found-clause-violated c =
     let source : c.run.new.search.source ≡ c.args.source = c.in_ok-found.ensures.source ∙ c.in_ok-set_out.ensures.source in
     let closed = OnFalse_at c.if-not-found.true c.in_ok-found.ensures.closed in
-    AreViolated-from_settled c.args.net.now c.args.state.now c.args.source c.run.new.search.settled.items c.nodes-nodes.ensures.kept c.requires.kept (rw source at closed) c.requires.source_in c.requires.rich
+    AreViolated-from_settled c.args.state.now c.args.source c.run.new.search.settled.items (rw source at closed) c.requires.source_in c.requires.rich
 
 pub clear-requires : goal.clear-requires
 clear-requires c =
     let found = OnTrue_at c.if-not-found.false c.in_ok-found.ensures.found in
-    IsClearable-from_search c.args.net.now c.args.state.now c.run.new.search found.search_kept
+    IsClearable-from_search c.args.state.now c.run.new.search found.search_kept
 
 pub arcs_at-scanned-requires-clause-nodes : goal.arcs_at-scanned-requires-clause-nodes
 arcs_at-scanned-requires-clause-nodes c =

@@ -14,13 +14,13 @@ use Rattle.flow_solver.proofs.path.augment.Goals.{After-index, After-min-amount,
 index_is : (c : After-index) → c.index.result.now ≡ excess_at c.args.state.now.excess.items c.args.search.now.node
 index_is c =
     let same = c.update_potentials.ensures.excess in
-    let b : c.args.search.now.node < length c.update_potentials.new.state.excess.items = rw same (omega (arith, c.requires.kept.excess_long, c.requires.found.search_kept.node_in)) in
+    let b : c.args.search.now.node < length c.update_potentials.new.state.excess.items = rw same (omega (arith, c.args.state.now.kept.excess_long, c.requires.found.search_kept.node_in)) in
     get_or_read _ _ _ b c.index.ensures (pos 0) ∙ ap (λ xs. excess_at xs c.args.search.now.node) same
 
 pub deficit_of-deficit-requires-clause-small : goal.deficit_of-deficit-requires-clause-small
 deficit_of-deficit-requires-clause-small c =
     let e = index_is (goal.at.deficit_of-deficit-requires-clause-small c).After-index in
-    let small = excess_within c.args.net.now _ _ _ c.nodes-nodes.ensures.kept c.requires.kept c.args.search.now.node in
+    let small = excess_within c.args.state.now.network.now _ _ _ c.args.state.now.good c.args.state.now.kept c.args.search.now.node in
     record { low = omega (arith, ints, e, small.low); high = omega (arith, ints, e, small.high) }
 
 last_is : (c : After-min-amount) → c.index-2.result.now ≡ reach_at c.args.search.now.tree.items (length c.args.search.now.tree.items - 1)
@@ -34,14 +34,14 @@ last_is c =
 amount_wide : (c : After-min-amount) → c.min-amount.result ≤ (reach_at c.args.search.now.tree.items (length c.args.search.now.tree.items - 1)).width
 amount_wide c = let e = ap (λ (r : Reach). r.width) (last_is c) in omega (arith, c.min-amount.ensures, e)
 
-pub carry_along-requires-clause-path : goal.carry_along-requires-clause-path
-carry_along-requires-clause-path c =
-    rw c.deref.ensures.value (c.update_potentials.ensures.path c.min-amount.result (amount_wide (goal.at.carry_along-requires-clause-path c).After-min-amount))
+pub carry_along-requires : goal.carry_along-requires
+carry_along-requires c =
+    record { path = rw c.deref.ensures.value (c.update_potentials.ensures.path c.min-amount.result (amount_wide (goal.at.carry_along-requires c).After-min-amount)) }
 
 deficit_is : (c : After-carry_along) → c.index.result.now ≡ excess_at c.args.state.now.excess.items c.args.search.now.node
 deficit_is c =
     let same = c.update_potentials.ensures.excess in
-    let b : c.args.search.now.node < length c.update_potentials.new.state.excess.items = rw same (omega (arith, c.requires.kept.excess_long, c.requires.found.search_kept.node_in)) in
+    let b : c.args.search.now.node < length c.update_potentials.new.state.excess.items = rw same (omega (arith, c.args.state.now.kept.excess_long, c.requires.found.search_kept.node_in)) in
     get_or_read _ _ _ b c.index.ensures (pos 0) ∙ ap (λ xs. excess_at xs c.args.search.now.node) same
 
 last_reach_is : (c : After-carry_along) → c.index-2.result.now ≡ reach_at c.args.search.now.tree.items (length c.args.search.now.tree.items - 1)
@@ -68,7 +68,7 @@ little c = omega (arith, ints, deficit_is c, c.min-amount.ensures, c.deficit_of-
 amount_some : (c : After-carry_along) → 0 < c.min-amount.result
 amount_some c =
     let is_tree = c.requires.found.search_kept.is_tree in
-    let last = width_some _ _ _ _ _ _ is_tree (length c.args.search.now.tree.items - 1) (omega (arith, is_tree.some)) in
+    let last = width_some _ _ _ _ _ is_tree (length c.args.search.now.tree.items - 1) (omega (arith, is_tree.some)) in
     let e = ap (λ (r : Reach). r.width) (last_reach_is c) in
     omega (arith, last, e, c.min-amount.ensures, c.deficit_of-deficit.ensures.some)
 
@@ -79,9 +79,9 @@ apart c same =
 
 pub returns-clause-calm : goal.returns-clause-calm
 returns-clause-calm c =
-    rw c.carry_along.ensures.potentials
+    rw (c.carry_along.ensures.network, c.update_potentials.ensures.network, c.carry_along.ensures.potentials)
     (calm_stays c.args.state.now.excess.items c.carry_along.new.state.excess.items c.args.search.now.source c.args.search.now.node c.min-amount.result (shifted c) (apart c)
-    c.args.net.now c.update_potentials.new.state.potentials.items (enough c) c.requires.found.deficit (rw c.update_potentials.ensures.excess at c.update_potentials.ensures.calm))
+    c.args.state.now.network.now c.update_potentials.new.state.potentials.items (enough c) c.requires.found.deficit (rw (c.update_potentials.ensures.network, c.update_potentials.ensures.excess) at c.update_potentials.ensures.calm))
 
 pub returns-clause-decreases : goal.returns-clause-decreases
 returns-clause-decreases c =

@@ -12,9 +12,9 @@ loop-place-preserved c =
     let above : 0 < i = omega arith in
     let tree = c.args.tree.now in
     let reach = reach_at tree i in
-    let shifted = rw (path.starts i above was.inside, path.ends i above was.inside) at c.carry.ensures.shifted in
+    let shifted = rw (was.network, path.starts i above was.inside, path.ends i above was.inside) at c.carry.ensures.shifted in
     record {
-      kept = c.carry.ensures.kept;
+      network = c.carry.ensures.network ∙ was.network;
       potentials = c.carry.ensures.potentials ∙ was.potentials;
       inside = omega (arith, path.froms i above was.inside, was.inside);
       wide = omega (arith, was.wide, path.narrow i above was.inside);

@@ -1,13 +1,13 @@
 use Rattle.std.proofs.Common.{◌≡◌, ℕ, ◌-◌, ◌<◌, ◌≤◌, length}
 use Rattle.std.specs.Prelude.{slice_index}
 use Rattle.flow_solver.specs.Search.{reach_at}
-use Rattle.flow_solver.specs.State.{IsState, IsShifted}
+use Rattle.flow_solver.specs.State.{IsShifted}
 use Rattle.flow_solver.proofs.path.carry_along.Given as goal
 
 -- the amount came from the place to the last node, and the arcs below carry what they carried
 abbrev pub invariant-loop-place : goal.invariant-loop-place
 invariant-loop-place l = record {
-  kept : IsState l.net l.state.flow.items l.state.excess.items l.state.potentials.items;
+  network : l.state.network.now ≡ l.initial.state.network.now;
   potentials : l.state.potentials.items ≡ l.initial.state.potentials.items;
   inside : l.place < length l.tree;
   wide : l.amount ≤ (reach_at l.tree l.place).width;

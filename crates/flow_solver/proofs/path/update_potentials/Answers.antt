@@ -21,12 +21,12 @@ updated c =
     let on_tree = rw (c.deref_mut.ensures.value, c.deref.ensures.value, c.deref-2.ensures.value, depth) at c.update_tree.ensures.updated in
     let rest = rw (c.deref_mut.ensures.value, c.deref-2.ensures.value) at c.update_tree.ensures.rest in
     let long = rw c.deref_mut.ensures.value at c.update_tree.ensures.long in
-    AreUpdated-from_tree c.args.net.now c.args.state.now c.args.search.now.source c.args.search.now.node c.args.search.now.tree.items c.args.search.now.reaches.items c.args.search.now.distances.items c.args.search.now.settled.items (heap_items c.args.search.now.queue.waiting)
-    search c.requires.kept.potentials_long c.update_tree.new.potentials long on_tree rest
+    AreUpdated-from_tree c.args.state.now c.args.search.now.source c.args.search.now.node c.args.search.now.tree.items c.args.search.now.reaches.items c.args.search.now.distances.items c.args.search.now.settled.items (heap_items c.args.search.now.queue.waiting)
+    search c.args.state.now.kept.potentials_long c.update_tree.new.potentials long on_tree rest
 
 pub update_tree-requires-clause-small : goal.update_tree-requires-clause-small
 update_tree-requires-clause-small c = λ v.
-    let small = potential_within c.args.net.now c.args.state.now c.nodes-nodes.ensures.kept c.requires.kept v in
+    let small = potential_within c.args.state.now v in
     rw c.deref_mut.ensures.value (record { low = omega (arith, ints, small.low); high = omega (arith, ints, small.high) })
 
 pub update_tree-requires-clause-shallow : goal.update_tree-requires-clause-shallow
@@ -34,20 +34,20 @@ update_tree-requires-clause-shallow c =
     let search = c.requires.found.search_kept in
     let b : c.args.search.now.node < length c.args.search.now.distances.items = omega (arith, search.node_in, search.distances_long) in
     let depth : c.index-depth.result.now ≡ distance_at c.args.search.now.distances.items c.args.search.now.node = get_or_read _ _ _ b c.index-depth.ensures 0 in
-    let small = settled_small c.args.net.now c.args.state.now c.args.search.now.source c.args.search.now.tree.items c.args.search.now.distances.items c.args.search.now.settled.items c.nodes-nodes.ensures.kept c.requires.kept search.is_tree c.args.search.now.node search.node_settled in
+    let small = settled_small c.args.state.now c.args.search.now.source c.args.search.now.tree.items c.args.search.now.distances.items c.args.search.now.settled.items search.is_tree c.args.search.now.node search.node_settled in
     omega (arith, depth, small)
 
-pub returns-clause-kept : goal.returns-clause-kept
-returns-clause-kept c0 =
-    let c : After-update_tree = (goal.at.returns-clause-kept c0).After-update_tree in
-    rw (all c) (IsState-updated c.args.net.now c.args.state.now c.args.search.now.source c.args.search.now.node c.args.search.now.tree.items c.args.search.now.reaches.items c.args.search.now.distances.items c.args.search.now.settled.items (heap_items c.args.search.now.queue.waiting) c.nodes-nodes.ensures.kept c.requires.kept c.requires.found.search_kept c.requires.found.deficit c.requires.calm c.update_tree.new.potentials (updated c))
+pub invariant_of-state-clause-kept : goal.invariant_of-state-clause-kept
+invariant_of-state-clause-kept c0 =
+    let c : After-update_tree = (goal.at.invariant_of-state-clause-kept c0).After-update_tree in
+    rw (all c) (IsState-updated c.args.state.now c.args.search.now.source c.args.search.now.node c.args.search.now.tree.items c.args.search.now.reaches.items c.args.search.now.distances.items c.args.search.now.settled.items (heap_items c.args.search.now.queue.waiting) c.requires.found.search_kept c.requires.found.deficit c.requires.calm c.update_tree.new.potentials (updated c))
 
 pub returns-clause-calm : goal.returns-clause-calm
 returns-clause-calm c0 =
     let c : After-update_tree = (goal.at.returns-clause-calm c0).After-update_tree in
-    rw (all c) (AreCalm-updated c.args.net.now c.args.state.now c.args.search.now.source c.args.search.now.node c.args.search.now.tree.items c.args.search.now.reaches.items c.args.search.now.distances.items c.args.search.now.settled.items (heap_items c.args.search.now.queue.waiting) c.nodes-nodes.ensures.kept c.requires.kept c.requires.found.search_kept c.requires.found.deficit c.requires.calm c.update_tree.new.potentials (updated c))
+    rw (all c) (AreCalm-updated c.args.state.now c.args.search.now.source c.args.search.now.node c.args.search.now.tree.items c.args.search.now.reaches.items c.args.search.now.distances.items c.args.search.now.settled.items (heap_items c.args.search.now.queue.waiting) c.requires.found.search_kept c.requires.found.deficit c.requires.calm c.update_tree.new.potentials (updated c))
 
 pub returns-clause-path : goal.returns-clause-path
 returns-clause-path c0 = λ amount wide.
     let c : After-update_tree = (goal.at.returns-clause-path c0).After-update_tree in
-    IsPath-updated c.args.net.now c.args.state.now c.args.search.now.source c.args.search.now.node c.args.search.now.tree.items c.args.search.now.reaches.items c.args.search.now.distances.items c.args.search.now.settled.items (heap_items c.args.search.now.queue.waiting) c.nodes-nodes.ensures.kept c.requires.kept c.requires.found.search_kept c.requires.found.deficit c.requires.calm c.update_tree.new.potentials (updated c) amount _ refl (all c) wide
+    IsPath-updated c.args.state.now c.args.search.now.source c.args.search.now.node c.args.search.now.tree.items c.args.search.now.reaches.items c.args.search.now.distances.items c.args.search.now.settled.items (heap_items c.args.search.now.queue.waiting) c.requires.found.search_kept c.requires.found.deficit c.requires.calm c.update_tree.new.potentials (updated c) amount _ refl refl (all c) wide

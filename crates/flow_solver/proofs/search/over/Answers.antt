@@ -9,7 +9,7 @@ pub overflow_add-result : goal.overflow_add-result
 overflow_add-result c =
     let b : c.args.search.now.node < length c.args.search.now.distances.items = omega (arith, c.requires.search.distances_long, c.requires.search.node_in) in
     let distance : c.index.result.now ≡ distance_at c.args.search.now.distances.items c.args.search.now.node = get_or_read _ _ _ b c.index.ensures 0 in
-    let small = over_small c.args.net.now c.args.state.now _ _ _ _ _ _ _ c.nodes-nodes.ensures.kept c.requires.kept c.requires.search c.args.link.step.arc c.args.link.step.forward c.requires.link.arc c.requires.starts in
+    let small = over_small c.args.state.now _ _ _ _ _ _ _ c.requires.search c.args.link.step.arc c.args.link.step.forward c.requires.link.arc c.requires.starts in
     let e = c.requires.reduced in
     omega (arith, ints, small, e, distance)
 

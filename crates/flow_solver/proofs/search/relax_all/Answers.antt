@@ -29,12 +29,11 @@ relax-requires-clause-starts c =
     let from : slice_index c.args.links.now.starts.items c.args.search.now.node ≤ c.loop-place.place = omega (arith, first_is before, c.loop-place.auto.place) in
     let to : c.loop-place.place < slice_index c.args.links.now.starts.items (c.args.search.now.node + 1) = omega (arith, end_is before, c.loop-place-test.true) in
     let leaves = c.requires.links.leave c.args.search.now.node c.loop-place.place c.requires.search.node_in from to in
-    ap (start_at c.args.net.now) (link_is before) ∙ leaves ∙ sym c.loop-place.invariant.same.node
+    ap (start_at c.args.state.now.network.now) (link_is before) ∙ leaves ∙ sym c.loop-place.invariant.same.node
 
 pub loop-place-preserved : goal.loop-place-preserved
 loop-place-preserved c =
     let before : After-index = (goal.at.loop-place-preserved c).After-index in
-    let net = c.args.net.now in
     let state = c.args.state.now in
     let was = c.loop-place.invariant in
     let done = c.in_ok-relax.ensures in
@@ -42,16 +41,15 @@ loop-place-preserved c =
     let node = c.loop-place.search.node in
     let first = slice_index c.args.links.now.starts.items node in
     let new = c.relax.new.search.distances.items in
-    let here : IsRelaxed net state new node (link_at links c.loop-place.place).step.arc (link_at links c.loop-place.place).step.forward = rw (link_is before) at done.relaxed in
+    let here : IsRelaxed state new node (link_at links c.loop-place.place).step.arc (link_at links c.loop-place.place).step.forward = rw (link_is before) at done.relaxed in
     record {
       same = SameTree-then c.args.search.now c.loop-place.search c.relax.new.search was.same done.relaxes.same;
       search = done.relaxes.search;
-      relaxed = rw done.relaxes.same.node (AreRelaxedTo-more net state c.loop-place.search.distances.items new node links first c.loop-place.place done.relaxes.lower done.relaxes.stays here was.relaxed);
+      relaxed = rw done.relaxes.same.node (AreRelaxedTo-more state c.loop-place.search.distances.items new node links first c.loop-place.place done.relaxes.lower done.relaxes.stays here was.relaxed);
     }
 
 pub returns-clause-relaxed : goal.returns-clause-relaxed
 returns-clause-relaxed c =
-    let net = c.args.net.now in
     let state = c.args.state.now in
     let distances = c.loop-place.search.distances.items in
     let starts = c.args.links.now.starts.items in
@@ -60,4 +58,4 @@ returns-clause-relaxed c =
     let end : c.index-place-end.result.now ≡ slice_index starts (node + 1) = get_or_read _ _ _ b c.index-place-end.ensures 0 in
     let last : slice_index starts (node + 1) ≤ c.loop-place.place = omega (arith, end, c.loop-place-test.false) in
     let all = rw c.loop-place.invariant.same.node at c.loop-place.invariant.relaxed in
-    IsRelaxedFrom-links net state distances node c.args.links.now c.requires.kept c.requires.links (λ i from to. all i from (omega (arith, to, last)))
+    IsRelaxedFrom-links state distances node c.args.links.now c.requires.links (λ i from to. all i from (omega (arith, to, last)))

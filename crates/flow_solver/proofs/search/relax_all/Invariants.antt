@@ -7,6 +7,6 @@ use Rattle.flow_solver.proofs.search.relax_all.Given as goal
 abbrev pub invariant-loop-place : goal.invariant-loop-place
 invariant-loop-place l = record {
   same : SameTree l.initial.search l.search;
-  search : IsSearch l.net l.state l.search;
-  relaxed : AreRelaxedTo l.net l.state l.search.distances.items l.search.node l.links.all.items (slice_index l.links.starts.items l.search.node) l.place;
+  search : IsSearch l.state l.search;
+  relaxed : AreRelaxedTo l.state l.search.distances.items l.search.node l.links.all.items (slice_index l.links.starts.items l.search.node) l.place;
 }

@@ -8,10 +8,10 @@ use Rattle.flow_solver.proofs.search.run.Given as goal
 abbrev pub invariant-loop-node : goal.invariant-loop-node
 invariant-loop-node l = record {
   source : l.search.source ≡ l.initial.search.source;
-  search : IsSearch l.net l.state l.search;
-  relaxed : IsRelaxedFrom l.net l.state l.search.distances.items l.search.node;
+  search : IsSearch l.state l.search;
+  relaxed : IsRelaxedFrom l.state l.search.distances.items l.search.node;
   calm : pos 0 ≤ℤ excess_at l.state.excess.items l.search.node;
 }
 
 abbrev pub decreases-loop-node : goal.decreases-loop-node
-decreases-loop-node l = l.net.nodes - length l.search.tree.items
+decreases-loop-node l = l.state.network.now.nodes - length l.search.tree.items

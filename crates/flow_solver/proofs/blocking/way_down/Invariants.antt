@@ -1,5 +1,0 @@
-use Rattle.flow_solver.specs.Blocking.{IsWalk}
-use Rattle.flow_solver.proofs.blocking.way_down.Given as goal
-
-abbrev pub invariant-loop-place : goal.invariant-loop-place
-invariant-loop-place l = IsWalk l.net l.walk
