@@ -1,6 +1,10 @@
 -- A blocking pass: what is kept, so that each step is safe.
-use Rattle.std.specs.Prelude.{◌≡◌, ◌+◌, ◌<◌, length, All}
-use Rattle.bounded_network.specs.Network.{NetworkValue}
+use Rattle.std.specs.Prelude.{ℕ, ◌≡◌, ◌+◌, ◌<◌, length, slice_index, pos, All}
+use Rattle.bounded_network.specs.Network.{NetworkValue, arc_at}
+use Rattle.residual_arcs.specs.declared.links.Link.{Link}
+use Rattle.residual_arcs.specs.Step.{left_on}
+use Rattle.flow_solver.specs.declared.state.State.{State}
+use Rattle.flow_solver.specs.Links.{reduced_over}
 use Rattle.flow_solver.specs.declared.levels.Levels.{Levels}
 use Rattle.flow_solver.specs.declared.blocking.WalkStep.{WalkStep}
 use Rattle.flow_solver.specs.declared.blocking.Walk.{Walk}
@@ -9,6 +13,11 @@ use Rattle.flow_solver.specs.declared.blocking.Walk.{Walk}
 pub record AreLevels (net : NetworkValue) (levels : Levels) : Type 0 where
   pub long : length levels.each.items ≡ net.nodes
   pub reached : All (λ v. v < net.nodes) levels.reached.items
+
+-- a walk can go on over the node's link: it can carry more, and its reduced cost is 0
+pub record Descends (state : State) (node : ℕ) (link : Link) : Type 0 where
+  pub even : reduced_over state.potentials.items node link ≡ pos 0
+  pub left : 0 < left_on (arc_at state.network.now link.step.arc) (slice_index state.flow.items link.step.arc) link.step.forward
 
 -- it names a node and an arc
 pub record IsWalkStep (net : NetworkValue) (step : WalkStep) : Type 0 where

@@ -2,8 +2,8 @@
 //
 // A pass goes over the nodes with an excess. From each it walks down the levels, and at a deficit pushes along the walk.
 // Each step of a push keeps the state by itself, so that nothing is proved of the walk.
-ghost use Rattle.std.specs.Prelude.{◌≡◌, ◌<◌, length, IfOk, OnOk, IfSome, All};
-ghost use Rattle.flow_solver.specs.Blocking.{AreLevels, IsWalkStep, IsWalk};
+ghost use Rattle.std.specs.Prelude.{◌≡◌, ◌<◌, length, IfOk, OnOk, IfSome, IsTrue, All};
+ghost use Rattle.flow_solver.specs.Blocking.{AreLevels, Descends, IsWalkStep, IsWalk};
 ghost use Rattle.flow_solver.specs.Links.{IsLinkWithin};
 ghost use Rattle.residual_arcs.specs.Links.{AreLinks};
 ghost use Rattle.flow_solver.specs.Calm.{IsCalm};
@@ -46,6 +46,7 @@ fn leads_down(state: &State<'_>, walk: &Walk, node: u32, link: Link) -> bool
     requires walk { IsWalk state.now.network.now walk.now }
     requires node_in { node < state.now.network.now.nodes }
     requires link { IsLinkWithin state.now.network.now link }
+    ensures { IsTrue result → Descends state.now node link }
 {
     is_below(walk.levels[link.to as usize], walk.levels[node as usize])
         && is_admissible(state, node, link)
@@ -59,6 +60,7 @@ fn descending_link(links: &Links, state: &State<'_>, walk: &mut Walk, node: u32)
     requires node_in { node < state.now.network.now.nodes }
     ensures walk { IsWalk state.now.network.now walk.new }
     ensures link { IfSome result (λ link. IsLinkWithin state.now.network.now link) }
+    ensures descends { IfSome result (λ link. Descends state.now node link) }
 {
     let end = links.starts[node as usize + 1];
     for place in walk.next[node as usize]..end {

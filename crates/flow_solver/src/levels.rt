@@ -21,7 +21,8 @@ pub struct Levels {
     pub reached: Vec<u32>,
 }
 
-/// Whether the reduced cost of the node's link is 0.
+/// Whether the reduced cost of the node's link is 0. Then its step is admissible where it can carry more, and so is the step
+/// back over it.
 pub fn is_admissible(state: &State<'_>, node: u32, link: Link) -> bool
     requires node_in { node < state.now.network.now.nodes }
     requires link { IsLinkWithin state.now.network.now link }
