@@ -5,6 +5,8 @@ ghost use Rattle.match_rules.specs.declared.answer.Sieve.{Sieve};
 ghost use Rattle.match_rules.specs.declared.answer.Sieve.TheVariants.{All as EveryPair};
 ghost use Rattle.match_rules.specs.Answers.{Rounded};
 ghost use Rattle.match_rules.specs.Assignments.{Fits, Meets, tickets};
+ghost use Rattle.match_rules.specs.Chosen.{chosen_places};
+ghost use Rattle.match_rules.specs.declared.rules.TheConstants.{MOST_PAIRS};
 ghost use Rattle.match_rules.specs.Plain.{Plain};
 ghost use Rattle.match_rules.specs.Rules.{AreRules};
 ghost use Rattle.match_rules.specs.SharesFit.{HasShares, SharesFit};
@@ -14,8 +16,17 @@ use crate::next::next_of;
 use crate::taking::rest_of;
 use crate::weights::weight_of;
 use bounded_network::amounts_of;
-use match_rules::{Lottery, Piece, Rules, Shares, chosen_places};
+use match_rules::{Lottery, Piece, Places, Rules, Shares, chosen_places};
 use std::alloc::{AllocError, Global};
+
+// The places at which a count isn't 0, in a list that takes no more memory than they need.
+fn places_in(alloc: Global, counts: &[u64]) -> Result<Places, AllocError>
+    requires { length counts.now ≤ MOST_PAIRS }
+    ensures value { IfOk result (λ places. places ≡ chosen_places counts.now) }
+{
+    let grown = chosen_places(alloc, counts)?;
+    grown.copy(alloc)
+}
 
 // The pieces, in the order in which they are peeled off.
 fn pieces_of(alloc: Global, rules: &Rules, shares: &Shares) -> Result<Vec<Piece>, AllocError>
@@ -33,7 +44,7 @@ fn pieces_of(alloc: Global, rules: &Rules, shares: &Shares) -> Result<Vec<Piece>
         let amounts = amounts_of(alloc, rules, &rest)?;
         let weight = weight_of(left, amounts.as_slice(), counts.as_slice());
         let chosen = &counts[..pairs];
-        let places = chosen_places(alloc, chosen)?;
+        let places = places_in(alloc, chosen)?;
         pieces.push(Piece {
             weight,
             pairs: places,
