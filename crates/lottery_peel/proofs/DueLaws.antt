@@ -1,12 +1,12 @@
 -- Lists of the tickets at which counts are due, one entry at a time.
-use Rattle.std.proofs.Common.{◌≡◌, ◌≢◌, ℕ, zero, suc, ◌+◌, ◌-◌, ◌<◌, ◌≤◌, ◌⊎◌, min, List, [], ◌∷◌, ◌++◌, length, get_or-set_same, get_or-set_other, refl, sym, ap, ◌∙◌, subst, arith, inl, inr}
+use Rattle.std.proofs.Common.{◌≡◌, ◌≢◌, ℕ, ◌+◌, ◌-◌, ◌<◌, ◌≤◌, ◌⊎◌, min, List, [], ◌∷◌, ◌++◌, length, get_or-set_same, get_or-set_other, refl, sym, ap, ◌∙◌, subst, arith, inl, inr}
 use Rattle.std.specs.Prelude.{slice_index, slice_set}
 use Rattle.std.proofs.lemmas.Bool.{cases_eq, cases_lt}
 use Rattle.std.proofs.lemmas.List.{get_or_append_left, get_or_push, length_push, length-set}
 use Rattle.residual_arcs.specs.declared.step.Step.{Step}
 use Rattle.unit_turns.specs.Steps.{step_at}
 use Rattle.lottery_peel.specs.Peeling.{limit}
-use Rattle.lottery_peel.specs.Standing.{AreFirstDues, IsLeastDue, AreDueArcs, AreTurned}
+use Rattle.lottery_peel.specs.Standing.{IsLeastDue, AreDueArcs, AreTurned}
 
 -- ---- the least
 

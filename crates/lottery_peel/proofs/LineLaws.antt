@@ -1,12 +1,12 @@
 -- One amount whose count stands: while tickets are given, where it is turned, and where it is settled.
-use Rattle.std.proofs.Common.{◌≡◌, ◌≢◌, ℕ, zero, suc, ◌+◌, ◌-◌, ◌*◌, ◌/◌, ◌%◌, ◌<◌, ◌≤◌, ◌⊎◌, min, false, refl, sym, arith, inl, inr, subst}
+use Rattle.std.proofs.Common.{◌≡◌, ℕ, zero, suc, ◌+◌, ◌-◌, ◌*◌, ◌/◌, ◌%◌, ◌<◌, ◌≤◌, ◌⊎◌, min, refl, sym, arith, inl, inr, subst}
 use Rattle.std.specs.Prelude.{◌==◌, if◌then◌else◌}
 use Rattle.std.proofs.lemmas.Bool.{cases_eq, eq-eqb, ne_eqb}
 use Rattle.std.proofs.Math.Nat.{div-add-mod}
 use Rattle.bounded_network.specs.declared.network.Arc.{Arc}
-use Rattle.bounded_network.specs.Spans.{IsBetween, rounded}
+use Rattle.bounded_network.specs.Spans.{rounded}
 use Rattle.lottery_peel.specs.Peeling.{limit}
-use Rattle.lottery_peel.specs.Standing.{IsLine, IsTight, IsMultiple}
+use Rattle.lottery_peel.specs.Standing.{IsLine, IsTight}
 use Rattle.lottery_peel.proofs.OneAmount.{parts}
 
 -- a count is the floor or a unit more
@@ -221,43 +221,49 @@ line-rounded all left arc count due amount line some (inr between) =
 
 first-by : (all : ℕ) (arc : Arc) (count due amount over : ℕ) → all * arc.floor + over ≡ amount → over < all → arc.room ≡ arc.floor + min 1 over → arc.floor ≤ count → count ≤ arc.room
     → due ≡ (if over == 0 then all else (if count == arc.floor then (all - over) else over)) → IsLine all all arc count due amount × IsTight all all arc due
-first-by all arc count due amount zero whole below room low high is =
-    (record {
-      narrow = omega arith;
-      above = low;
-      below = high;
-      least = omega arith;
-      most = let same : arc.room ≡ arc.floor = omega arith in rw same (omega arith);
-      down = λ here. omega arith;
-      up = λ here. absurd (omega arith);
-    }, inl (omega arith))
+first-by all arc count due amount zero whole below room low high is = (
+  record {
+    narrow = omega arith;
+    above = low;
+    below = high;
+    least = omega arith;
+    most = let same : arc.room ≡ arc.floor = omega arith in rw same (omega arith);
+    down = λ here. omega arith;
+    up = λ here. absurd (omega arith);
+  },
+  inl (omega arith),
+)
 first-by all arc count due amount (suc o) whole below room low high is =
     let some = ne_eqb (suc o) 0 (λ none. absurd (omega arith)) in
     let wide : arc.room ≡ arc.floor + 1 = omega arith in
     let most : amount ≤ all * arc.room = rw wide (omega arith) in
     elim (cases_eq count arc.floor) [
       | inl same ↦
-          let due_is : due ≡ all - suc o = rw (some, eq-eqb count arc.floor same) at is in
-          (record {
-            narrow = omega arith;
-            above = low;
-            below = high;
-            least = omega arith;
-            most = most;
-            down = λ here. omega arith;
-            up = λ here. absurd (omega arith);
-          }, inr (omega arith, omega arith))
+          let due_is : due ≡ all - suc o = rw (some, eq-eqb count arc.floor same) at is in (
+            record {
+              narrow = omega arith;
+              above = low;
+              below = high;
+              least = omega arith;
+              most = most;
+              down = λ here. omega arith;
+              up = λ here. absurd (omega arith);
+            },
+            inr (omega arith, omega arith),
+          )
       | inr other ↦
-          let due_is : due ≡ suc o = rw (some, ne_eqb count arc.floor other) at is in
-          (record {
-            narrow = omega arith;
-            above = low;
-            below = high;
-            least = omega arith;
-            most = most;
-            down = λ here. absurd (other here);
-            up = λ here. omega arith;
-          }, inr (omega arith, omega arith))
+          let due_is : due ≡ suc o = rw (some, ne_eqb count arc.floor other) at is in (
+            record {
+              narrow = omega arith;
+              above = low;
+              below = high;
+              least = omega arith;
+              most = most;
+              down = λ here. absurd (other here);
+              up = λ here. omega arith;
+            },
+            inr (omega arith, omega arith),
+          )
     ]
 
 pub line-first : (all : ℕ) (arc : Arc) (count due amount : ℕ) → 1 ≤ all → arc.floor ≡ (rounded all amount).floor → arc.room ≡ (rounded all amount).room → arc.floor ≤ count → count ≤ arc.room

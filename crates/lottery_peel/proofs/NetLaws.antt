@@ -1,13 +1,12 @@
 -- Networks whose bounds have become narrower.
-use Rattle.std.proofs.Common.{◌≡◌, ◌≢◌, ℕ, ◌+◌, ◌*◌, ◌<◌, ◌≤◌, Bool, List, length, refl, sym, ap, ◌∙◌, subst, arith, inl, inr}
-use Rattle.std.specs.Prelude.{slice_index, slice_set, ◌==◌}
+use Rattle.std.proofs.Common.{◌≡◌, ◌≢◌, ℕ, ◌*◌, ◌<◌, ◌≤◌, Bool, List, length, refl, sym, ap, ◌∙◌, subst, arith, inl, inr}
+use Rattle.std.specs.Prelude.{slice_index, ◌==◌}
 use Rattle.std.proofs.lemmas.Bool.{cases_eq}
 use Rattle.std.proofs.Math.ListN.{length-set}
-use Rattle.match_rules.specs.Rules.{RulesValue, AreRules, pair_at}
-use Rattle.match_rules.specs.Groups.{group_count}
+use Rattle.match_rules.specs.Rules.{RulesValue, AreRules}
 use Rattle.match_rules.specs.Sums.{count_below, when}
 use Rattle.bounded_network.specs.declared.network.Arc.{Arc}
-use Rattle.bounded_network.specs.Compile.{Compiles, amounts_in, flow_of, network_of}
+use Rattle.bounded_network.specs.Compile.{Compiles, flow_of, network_of}
 use Rattle.bounded_network.specs.Network.{NetworkValue, IsNetwork, IsCirculation, AreViolated, arc_at, with_bounds, entering, leaving}
 use Rattle.bounded_network.specs.Scaled.{IsScaled}
 use Rattle.bounded_network.specs.Spans.{Spans}
@@ -81,7 +80,7 @@ pub narrower-held : (net : NetworkValue) (a amount : ℕ) → a < length net.arc
 narrower-held net a amount lt low high =
     let size = held-long net a amount in
     let at : (Q : Arc → ℕ → Type 0) → Q (record (arc_at net a) { floor = amount; room = amount }) a → ((k : ℕ) → k < length net.arcs → k ≢ a → Q (arc_at net k) k)
-        → (k : ℕ) → k < length (with_bounds net a amount amount).arcs → Q (arc_at (with_bounds net a amount amount) k) k =
+    → (k : ℕ) → k < length (with_bounds net a amount amount).arcs → Q (arc_at (with_bounds net a amount amount) k) k =
     λ Q here others k k_in. each-held net a amount Q lt here others k (omega (arith, k_in, size)) in
     record {
       nodes = refl;

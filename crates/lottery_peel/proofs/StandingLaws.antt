@@ -1,5 +1,5 @@
 -- Counts that stand: what they are between pieces, while tickets are given, where they are turned and where they are settled.
-use Rattle.std.proofs.Common.{◌≡◌, ◌≢◌, ℕ, zero, suc, ◌+◌, ◌-◌, ◌*◌, ◌<◌, ◌≤◌, ◌⊎◌, Bool, true, false, List, length, ltb, refl, sym, ap, ◌∙◌, subst, arith, inl, inr}
+use Rattle.std.proofs.Common.{◌≡◌, ◌≢◌, ℕ, zero, suc, ◌+◌, ◌-◌, ◌<◌, ◌≤◌, ◌⊎◌, Bool, true, false, List, length, ltb, refl, sym, ◌∙◌, subst, arith, inl, inr}
 use Rattle.std.specs.Prelude.{slice_index}
 use Rattle.std.proofs.lemmas.Bool.{cases_eq, cases_lt, lt-ltb, le-ltb}
 use Rattle.match_rules.specs.Rules.{RulesValue, AreRules}
@@ -7,7 +7,7 @@ use Rattle.bounded_network.specs.declared.network.Arc.{Arc}
 use Rattle.bounded_network.specs.Compile.{amounts_in, flow_of, network_of}
 use Rattle.bounded_network.specs.Network.{NetworkValue, IsNetwork, IsCirculation, AreViolated, arc_at, with_bounds}
 use Rattle.bounded_network.specs.Scaled.{IsScaled}
-use Rattle.bounded_network.specs.Spans.{IsBetween, rounded, rounded_spans}
+use Rattle.bounded_network.specs.Spans.{rounded, rounded_spans}
 use Rattle.bounded_network.proofs.Compiled.{each_arc, flow-length, flow-of_pair, flow-of_paper, flow-of_group, flow-of_reviewer}
 use Rattle.bounded_network.proofs.Rebounds.{bounded-at, bounded-other}
 use Rattle.residual_arcs.specs.declared.step.Step.{Step}
@@ -15,8 +15,8 @@ use Rattle.residual_arcs.specs.Step.{left_on, carried}
 use Rattle.unit_turns.specs.Fixed.{with_fixed}
 use Rattle.unit_turns.specs.Steps.{AreFree, AreTaken, step_at}
 use Rattle.lottery_peel.specs.declared.standing.Standing.{Standing}
-use Rattle.lottery_peel.specs.Peeling.{limit, AreLess, AreRounded, IsNext, IsWeight}
-use Rattle.lottery_peel.specs.Standing.{IsLine, IsTight, IsMultiple, IsLeastDue, AreFirstDues, AreTurned, HasRounded, PassesOn, IsStanding, IsNextStanding, LineAt, TightAt}
+use Rattle.lottery_peel.specs.Peeling.{limit, AreLess, IsNext, IsWeight}
+use Rattle.lottery_peel.specs.Standing.{IsLine, IsTight, IsMultiple, IsLeastDue, AreFirstDues, AreTurned, HasRounded, PassesOn, IsStanding, IsNextStanding, TightAt}
 use Rattle.unit_turns.proofs.Narrowing.{AreLinksOver-narrowed}
 use Rattle.lottery_peel.proofs.FlowSteps.{flow-less}
 use Rattle.lottery_peel.proofs.GoodSteps.{some-tickets}

@@ -1,6 +1,5 @@
 -- What a next assignment takes off shares, one pair at a time.
-use Rattle.std.proofs.Common.{◌≡◌, ℕ, ◌+◌, ◌*◌, ◌<◌, ◌≤◌, List, length, arith}
-use Rattle.std.specs.Prelude.{slice_index}
+use Rattle.std.proofs.Common.{◌≡◌, ℕ, List, length, arith}
 use Rattle.std.proofs.lemmas.List.{length-take-le}
 use Rattle.match_rules.specs.Rules.{RulesValue}
 use Rattle.bounded_network.specs.Compile.{amounts_in}

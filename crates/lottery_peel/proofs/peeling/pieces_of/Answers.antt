@@ -1,9 +1,8 @@
-use Rattle.std.proofs.Common.{◌≡◌, ℕ, ◌+◌, ◌-◌, ◌≤◌, List, length, sym, ◌∙◌, arith}
+use Rattle.std.proofs.Common.{◌≡◌, ℕ, ◌+◌, ◌-◌, List, length, sym, ◌∙◌, arith}
 use Rattle.match_rules.specs.declared.lottery.Piece.{Piece}
 use Rattle.match_rules.specs.Chosen.{chosen_places}
 use Rattle.match_rules.specs.Rules.{RulesValue}
 use Rattle.bounded_network.specs.Compile.{amounts_in, flow_of}
-use Rattle.lottery_peel.specs.declared.standing.Standing.{Standing}
 use Rattle.lottery_peel.specs.Peeling.{AreLess, IsNext, IsStepTo, IsWeight}
 use Rattle.lottery_peel.specs.Standing.{IsNextStanding}
 use Rattle.lottery_peel.proofs.FlowSteps.{next-enough}

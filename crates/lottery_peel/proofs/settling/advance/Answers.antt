@@ -1,4 +1,4 @@
-use Rattle.std.proofs.Common.{◌≡◌, ℕ, ◌+◌, ◌-◌, ◌<◌, List, length, subst, arith, inl, inr}
+use Rattle.std.proofs.Common.{ℕ, ◌-◌, ◌<◌, List, length, subst, arith, inl, inr}
 use Rattle.std.specs.Prelude.{slice_index}
 use Rattle.lottery_peel.specs.Standing.{AreDueArcs, TightAt}
 use Rattle.lottery_peel.proofs.settling.advance.Goals as goal

@@ -1,4 +1,4 @@
-use Rattle.std.proofs.Common.{◌≡◌, ℕ, List, length, sym, ◌∙◌}
+use Rattle.std.proofs.Common.{sym, ◌∙◌}
 use Rattle.match_rules.specs.Rules.{RulesValue}
 use Rattle.bounded_network.specs.Compile.{flow_of}
 use Rattle.bounded_network.proofs.Compiled.{flow-length}
