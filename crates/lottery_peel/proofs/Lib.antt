@@ -1,8 +1,12 @@
 pub mod AmountLists
+pub mod DueLaws
 pub mod FlowSteps
 pub mod GoodSteps
+pub mod LineLaws
 pub mod LoopLaws
+pub mod NetLaws
 pub mod OneAmount
 pub mod PeeledLaws
+pub mod StandingLaws
 pub mod Takings
 pub mod Weighing

@@ -14,7 +14,7 @@ limit-by left count (suc f) q below =
       | inr other ↦ rw (some, ne_eqb count q other) (omega arith)
     ]
 
-limit-some : (left amount count : ℕ) → 1 ≤ left → 1 ≤ limit left amount count
+pub limit-some : (left amount count : ℕ) → 1 ≤ left → 1 ≤ limit left amount count
 limit-some left amount count some =
     let below : amount % left < left = omega arith in
     limit-by left count (amount % left) (amount / left) below

@@ -9,10 +9,11 @@
 // `specs/Peeling.antt` has the definitions; `proofs/` has the laws of one amount, of lists, of flows and of the loop.
 #![tactic(auto)]
 
+mod dues;
 mod examples;
-mod next;
 mod peeling;
-mod taking;
+mod settling;
+mod standing;
 mod weights;
 
 pub use examples::worked_steps;

@@ -1,12 +1,20 @@
 // For how many tickets an assignment may stand.
 
-ghost use Rattle.std.specs.Prelude.{◌≡◌, ◌≤◌, length};
+ghost use Rattle.std.specs.Prelude.{◌≡◌, ◌+◌, ◌-◌, ◌≤◌, length};
+ghost use Rattle.bounded_network.specs.Compile.{flow_of};
 ghost use Rattle.lottery_peel.specs.Peeling.{limit, IsWeight};
+ghost use Rattle.lottery_peel.specs.Standing.{IsLeastDue, IsNextStanding};
 
-// For how many of the tickets that are left a count may stand.
-fn limit_of(left: u64, amount: u64, count: u64) -> u64
+use crate::dues::least_due;
+use crate::standing::Standing;
+use match_rules::Rules;
+use sparse_shares::SparseShares;
+
+/// For how many of the tickets that are left a count may stand.
+pub fn limit_of(left: u64, amount: u64, count: u64) -> u64
     requires { 1 ≤ left }
-    ensures { result ≡ limit left amount count }
+    ensures value { result ≡ limit left amount count }
+    ensures most { result ≤ left }
 {
     let over = amount % left;
     if over == 0 {
@@ -18,16 +26,16 @@ fn limit_of(left: u64, amount: u64, count: u64) -> u64
     }
 }
 
-// The greatest number of tickets for which all counts may stand, up to those that are left.
-pub fn weight_of(left: u32, amounts: &[u64], counts: &[u64]) -> u32
+/// The greatest number of tickets for which all counts may stand, up to those that are left: until one is due.
+pub fn weight_of(rules: &Rules, rest: &SparseShares, left: u32, standing: &Standing) -> u32
     requires some { 1 ≤ left }
-    requires long { length counts.now ≡ length amounts.now }
-    ensures { IsWeight left amounts.now counts.now (length amounts.now) result }
+    requires fewer { left ≤ rules.now.tickets }
+    requires next { IsNextStanding rules.now left rest.now standing.now }
+    ensures weighs { IsWeight left (flow_of rules.now rest.now) standing.now.counts.items (length (flow_of rules.now rest.now)) result }
+    ensures least { IsLeastDue rules.now.tickets standing.now.dues.items (length standing.now.dues.items) (rules.now.tickets - left + result) }
 {
-    let all = u64::from(left);
-    let mut weight = all;
-    for a in 0..amounts.len() {
-        weight = weight.min(limit_of(all, amounts[a], counts[a]));
-    }
-    weight as u32
+    let all = rules.tickets();
+    let used = all - left;
+    let ticket = least_due(all, standing.dues.as_slice());
+    ticket - used
 }

@@ -6,7 +6,7 @@ ghost use Rattle.residual_arcs.specs.Step.{start_of, end_of, left_on, carried};
 ghost use Rattle.unit_turns.specs.Fixed.{with_fixed};
 ghost use Rattle.unit_turns.specs.Over.{AreLinksOver};
 ghost use Rattle.unit_turns.specs.Side.{IsBlank, AreNumbered, IsSide, reach_at, place_of};
-ghost use Rattle.unit_turns.specs.Steps.{AreTaken, IsWay, step_at};
+ghost use Rattle.unit_turns.specs.Steps.{AreFree, AreTaken, IsWay, step_at};
 ghost use Rattle.unit_turns.specs.declared.side.Aim.{Aim};
 
 use crate::carrying::carry_round;
@@ -99,6 +99,7 @@ pub fn turn(
     ensures circulation { IsCirculation net.now flow.new }
     ensures turned { IfOk result (λ turned. OnTrue turned (slice_index flow.new step.arc ≡ carried (slice_index flow.old step.arc) step.forward 1)) }
     ensures taken { IfOk result (λ turned. OnTrue turned (AreTaken net.now flow.old flow.new steps.new.items)) }
+    ensures free { IfOk result (λ turned. OnTrue turned (AreFree net.now flow.old steps.new.items)) }
     ensures first { IfOk result (λ turned. OnTrue turned ((0 < length steps.new.items) × (step_at steps.new.items 0 ≡ step))) }
     ensures violated { IfOk result (λ turned. OnFalse turned ((marks : List Bool) × AreViolated (with_fixed net.now step.arc (carried (slice_index flow.old step.arc) step.forward 1)) marks)) }
     ensures unturned { IfOk result (λ turned. OnFalse turned (flow.new ≡ flow.old)) }

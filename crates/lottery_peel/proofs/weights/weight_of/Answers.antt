@@ -1,11 +1,21 @@
-use Rattle.lottery_peel.proofs.Weighing.{weight-none, weight-more}
+use Rattle.std.proofs.Common.{◌≡◌, ℕ, ◌+◌, ◌-◌, length, arith}
+use Rattle.lottery_peel.specs.Standing.{IsLeastDue}
+use Rattle.lottery_peel.proofs.StandingLaws.{weight-standing}
 use Rattle.lottery_peel.proofs.weights.weight_of.Goals as goal
 
-pub loop-a-init : goal.loop-a-init
-loop-a-init c = rw c.from-all.ensures (weight-none c.args.left c.args.amounts.now c.args.counts.now c.requires.some)
+pub returns-clause-weighs : goal.returns-clause-weighs
+returns-clause-weighs c =
+    let least : IsLeastDue c.args.rules.now.tickets c.args.standing.now.dues.items (length c.args.standing.now.dues.items) c.least_due-ticket.result =
+    rw (c.tickets-all.ensures.value, c.as_slice.ensures.value) at c.least_due-ticket.ensures in
+    rw c.tickets-all.ensures.value
+    (weight-standing c.args.rules.now c.args.left c.args.rest.now c.args.standing.now c.least_due-ticket.result c.requires.next c.requires.some c.requires.fewer least)
 
-pub loop-a-preserved : goal.loop-a-preserved
-loop-a-preserved c =
-    rw c.min-weight.ensures
-    (weight-more c.args.left c.args.amounts.now c.args.counts.now c.loop-a.a c.loop-a.weight c.limit_of.result c.requires.some c.loop-a.invariant
-    (rw c.from-all.ensures at c.limit_of.ensures))
+pub returns-clause-least : goal.returns-clause-least
+returns-clause-least c =
+    let all : ℕ = c.args.rules.now.tickets in
+    let ticket : ℕ = c.least_due-ticket.result in
+    let least : IsLeastDue all c.args.standing.now.dues.items (length c.args.standing.now.dues.items) ticket =
+    rw (c.tickets-all.ensures.value, c.as_slice.ensures.value) at c.least_due-ticket.ensures in
+    let weighs = weight-standing c.args.rules.now c.args.left c.args.rest.now c.args.standing.now ticket c.requires.next c.requires.some c.requires.fewer least in
+    let same : all - c.args.left + (ticket - (all - c.args.left)) ≡ ticket = omega (arith, weighs.some) in
+    rw (c.tickets-all.ensures.value, same) least

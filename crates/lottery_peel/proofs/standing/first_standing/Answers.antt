@@ -1,0 +1,26 @@
+use Rattle.std.proofs.Common.{sym, ◌∙◌}
+use Rattle.match_rules.specs.Rules.{RulesValue}
+use Rattle.bounded_network.specs.Compile.{flow_of}
+use Rattle.bounded_network.proofs.Compiled.{flow-length}
+use Rattle.lottery_peel.specs.Standing.{AreFirstDues}
+use Rattle.lottery_peel.proofs.StandingLaws.{first-at}
+use Rattle.lottery_peel.proofs.standing.first_standing.Goals as goal
+
+pub returns : goal.returns
+returns c =
+    let all : RulesValue = c.args.rules.now in
+    let passes = c.in_ok-net.ensures.passes in
+    let first : AreFirstDues all.tickets (flow_of all c.args.shares.now) c.in_ok-counts.counts.items c.in_ok-dues.dues.items = rw c.as_slice.ensures.value at c.in_ok-dues.ensures in
+    let at = first-at all c.args.shares.now c.in_ok-net.net c.in_ok-counts.counts.items c.in_ok-dues.dues.items c.rounded_network.ensures.kept passes c.in_ok-net.ensures.rounds c.in_ok-counts.ensures first in
+    record {
+      stands = record {
+        passes = passes;
+        links = c.links_serve.ensures.made c.in_ok-links.ensures;
+        circulates = c.in_ok-counts.ensures;
+        long = first.long ∙ flow-length all c.args.shares.now ∙ sym passes.size;
+        lines = λ a lt. (at a lt).0;
+        ahead = c.in_ok-ahead.ensures;
+        behind = c.in_ok-behind.ensures;
+      };
+      tight = λ a lt. (at a lt).1;
+    }
