@@ -2,7 +2,7 @@
 use Rattle.std.specs.Prelude.{ℕ, ◌≡◌, ◌<◌, List, Bool, length, pos, ◌≤ℤ◌}
 use Rattle.bounded_network.specs.Network.{NetworkValue, AreViolated}
 use Rattle.flow_solver.specs.declared.balance.Balance.{Balance}
-use Rattle.flow_solver.specs.declared.balance.Balance.TheVariants.{Even, Cut, GivenUp}
+use Rattle.flow_solver.specs.declared.balance.Balance.TheVariants.{Balanced, Cut, GivenUp}
 use Rattle.flow_solver.specs.declared.state.State.{State}
 use Rattle.flow_solver.specs.State.{excess_at}
 
@@ -16,8 +16,8 @@ pub record AreExcluding (net : NetworkValue) (marks : List Bool) : Type 0 where
   pub violated : AreViolated net marks
   pub long : length marks ≡ net.nodes
 
--- an even state is balanced, and a cut excludes every circulation
+-- the state is balanced, or the cut excludes every circulation
 abbrev pub Balances : NetworkValue → Balance → Type 0
-Balances net (Even state) = IsBalanced net state
+Balances net (Balanced state) = IsBalanced net state
 Balances net (Cut marks) = AreExcluding net marks.items
 Balances net GivenUp = Unit {0}

@@ -16,7 +16,7 @@ pub record AreLevels (net : NetworkValue) (levels : Levels) : Type 0 where
 
 -- a walk can go on over the node's link: it can carry more, and its reduced cost is 0
 pub record Descends (state : State) (node : ℕ) (link : Link) : Type 0 where
-  pub even : reduced_over state.potentials.items node link ≡ pos 0
+  pub tight : reduced_over state.potentials.items node link ≡ pos 0
   pub left : 0 < left_on (arc_at state.network.now link.step.arc) (slice_index state.flow.items link.step.arc) link.step.forward
 
 -- it names a node and an arc

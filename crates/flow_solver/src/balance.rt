@@ -25,7 +25,7 @@ const PATIENCE: usize = 20;
 #[derive(Drop)]
 pub enum Balance<'a> {
     /// The state without an excess.
-    Even(State<'a>),
+    Balanced(State<'a>),
     /// Marks of nodes that can't get rid of an excess.
     Cut(Vec<bool>),
     /// The patience was at its end.
@@ -52,7 +52,7 @@ fn drain_all<'a>(
             Outcome::GivenUp => return Ok(Balance::GivenUp),
         }
     }
-    Ok(Balance::Even(state))
+    Ok(Balance::Balanced(state))
 }
 
 // The same from the potentials of a coarse solution, which often shows at once that there is no circulation.
@@ -74,7 +74,7 @@ fn balanced_anew<'a>(
     let mut state = start_at(alloc, net, potentials)?;
     block(alloc, links, &mut state)?;
     match drain_all(alloc, links, state, None)? {
-        Balance::Even(state) => Ok(Ok(state)),
+        Balance::Balanced(state) => Ok(Ok(state)),
         Balance::Cut(marks) => Ok(Err(marks)),
         Balance::GivenUp => unreachable!(),
     }
@@ -104,7 +104,7 @@ pub fn balanced<'a>(
     let mut state = start_at(alloc, net, potentials)?;
     block(alloc, links, &mut state)?;
     match drain_all(alloc, links, state, patience_for(net))? {
-        Balance::Even(state) => Ok(Ok(state)),
+        Balance::Balanced(state) => Ok(Ok(state)),
         Balance::Cut(marks) => Ok(Err(marks)),
         Balance::GivenUp => balanced_anew(alloc, net, links),
     }

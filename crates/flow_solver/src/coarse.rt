@@ -98,8 +98,8 @@ pub fn coarse_at(
     })
 }
 
-/// The potential at which the link at the place is even, from its node.
-fn even_at(net: &Network, links: &Links, coarse: &Coarse, place: usize) -> i64
+/// The potential of its node at which the link at the place is tight: its reduced cost is 0.
+fn tight_potential(net: &Network, links: &Links, coarse: &Coarse, place: usize) -> i64
     requires coarse { IsCoarse net.now links.now coarse.now }
     requires links { AreLinks net.now links.now }
     requires place_in { place < length links.now.all.items }
@@ -172,8 +172,8 @@ fn saturate(
     requires place_in { place < length links.now.all.items }
     ensures { OnOk result (IsCoarse net.now links.now coarse.new) }
 {
-    let even = even_at(net, links, coarse, place);
-    if coarse.left[place] <= 0 || even <= coarse.potentials[node as usize] {
+    let tight = tight_potential(net, links, coarse, place);
+    if coarse.left[place] <= 0 || tight <= coarse.potentials[node as usize] {
         return Ok(());
     }
     push_over(net, links, coarse, node, place, i64::MAX)
@@ -233,7 +233,7 @@ pub fn begin_phase(
 }
 
 // Pushes the node's excess over its link at the place, if that has room and a negative reduced cost. Where it has room and no
-// negative one, says the potential at which it is even, or the best if that is greater.
+// negative one, says the potential at which it is tight, or the best if that is greater.
 fn push_or_note(
     net: &Network,
     links: &Links,
@@ -251,9 +251,9 @@ fn push_or_note(
     if coarse.left[place] <= 0 {
         return Ok(best);
     }
-    let even = even_at(net, links, coarse, place);
-    if even <= coarse.potentials[node as usize] {
-        return Ok(best.max(even));
+    let tight = tight_potential(net, links, coarse, place);
+    if tight <= coarse.potentials[node as usize] {
+        return Ok(best.max(tight));
     }
     let has = coarse.excess[node as usize];
     push_over(net, links, coarse, node, place, has)?;
@@ -261,7 +261,7 @@ fn push_or_note(
 }
 
 // Pushes the node's excess over its links from the next on, until it has none or they are at their end. Of those with room
-// whose reduced cost isn't negative, says the greatest potential at which one is even.
+// whose reduced cost isn't negative, says the greatest potential at which one is tight.
 fn push_excess(
     net: &Network,
     links: &Links,
@@ -284,7 +284,7 @@ fn push_excess(
     Ok(best)
 }
 
-// The greatest potential at which one of the node's links before the next, with room, is even, or the best if that is greater.
+// The greatest potential at which one of the node's links before the next, with room, is tight, or the best if that is greater.
 fn best_before(net: &Network, links: &Links, coarse: &Coarse, node: u32, best: i64) -> i64
     requires coarse { IsCoarse net.now links.now coarse.now }
     requires links { AreLinks net.now links.now }
@@ -294,7 +294,7 @@ fn best_before(net: &Network, links: &Links, coarse: &Coarse, node: u32, best: i
     let mut best = best;
     for place in links.starts[node as usize]..end {
         if coarse.left[place] > 0 {
-            best = best.max(even_at(net, links, coarse, place));
+            best = best.max(tight_potential(net, links, coarse, place));
         }
     }
     best

@@ -139,8 +139,8 @@ fn reach_over(
     if had <= ranks.rank {
         return Ok(());
     }
-    let even = coarse.potentials[node as usize].saturating_add(link.cost);
-    let reduced = coarse.potentials[link.to as usize].saturating_sub(even);
+    let tight = coarse.potentials[node as usize].saturating_add(link.cost);
+    let reduced = coarse.potentials[link.to as usize].saturating_sub(tight);
     let rank = ranks
         .rank
         .saturating_add(falls(reduced, coarse.epsilon))

@@ -1,6 +1,6 @@
 // Price refinement (Goldberg 1997): the potentials of a phase are made right for its amounts, where these are best ones.
 //
-// A step with room and a negative reduced cost lowers the potential at its end until it is even, and the end's steps are looked
+// A step with room and a negative reduced cost lowers the potential at its end until it is tight, and the end's steps are looked
 // at again: this is Bellman's and Ford's search for shortest paths from the potentials there are.
 ghost use Rattle.std.specs.Prelude.{◌≡◌, ◌<◌, length, IfOk, OnOk, All};
 ghost use Rattle.flow_solver.specs.Coarse.{IsCoarse};
