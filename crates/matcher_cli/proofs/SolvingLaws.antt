@@ -1,5 +1,5 @@
 -- What is written for a verdict is what is served for its rules, and each folder has one answer.
-use Rattle.std.proofs.Common.{◌≡◌, ℕ, List, Option, Result, Ok, Err, inl, inr, refl}
+use Rattle.std.proofs.Common.{◌≡◌, ℕ, List, Option, Result, Ok, Err, inl, inr, refl, subst}
 use Rattle.edge_io.specs.FileValues.{FileValue}
 use Rattle.match_rules.specs.declared.answer.Answer.{Answer}
 use Rattle.match_rules.specs.declared.answer.Answer.TheVariants.{Lottery, Infeasible}
@@ -39,7 +39,7 @@ verdict_certificate rules mode (Infeasible blocked) are v spelled = record {
 
 -- in the mode whole no lottery at all is better
 whole_best : (rules : RulesValue) (mode : Mode) (winning : Winning) → AreRules rules → IsVerdict rules mode (Lottery winning) → mode ≡ Whole → Best rules EveryPair winning.lottery
-whole_best rules mode winning are v refl = verdict-whole-best rules (Lottery winning) are v
+whole_best rules mode winning are v whole = verdict-whole-best rules (Lottery winning) are (subst (λ (m : Mode). IsVerdict rules m (Lottery winning)) whole v)
 
 -- a verdict whose text was written
 pub verdict_solves : (rules : RulesValue) (mode : Mode) (answer : Answer) (old : List ℕ) (new : Option (List ℕ)) → AreRules rules → IsVerdict rules mode answer → IsSpelled answer
