@@ -1,9 +1,8 @@
 -- What reading a whole text meets is its first fault.
-use Rattle.std.proofs.Common.{◌≡◌, ℕ, List, [], ◌++◌, Option, Result, Ok, ap, subst}
+use Rattle.std.proofs.Common.{◌≡◌, ℕ, List, [], ◌++◌, Option, Ok, ap, subst}
 use Rattle.edge_io.specs.Told.{told}
 use Rattle.match_rules.specs.declared.answer.Answer.{Answer}
 use Rattle.match_rules.specs.declared.sizes.Sizes.{Sizes}
-use Rattle.match_rules.specs.Rules.{RulesValue}
 use Rattle.match_rules.specs.Sound.{sizes_of}
 use Rattle.text_lines.specs.declared.fault.TextFault.{TextFault}
 use Rattle.text_lines.specs.FirstFault.{Due, HasFault, no_line}

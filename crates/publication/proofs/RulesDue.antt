@@ -1,18 +1,17 @@
 -- Reading the text of rules goes along with what is due behind its lines.
-use Rattle.std.proofs.Common.{◌≡◌, ℕ, List, length, Result, Ok}
+use Rattle.std.proofs.Common.{ℕ, List, length, Result, Ok}
 use Rattle.std.specs.Prelude.{codes}
 use Rattle.match_rules.specs.declared.rules.RulePaper.{RulePaper}
 use Rattle.match_rules.specs.declared.rules.RuleReviewer.{RuleReviewer}
 use Rattle.match_rules.specs.declared.rules.RulePair.{RulePair}
 use Rattle.match_rules.specs.declared.rules.TheConstants.{RULES_TICKETS, MOST_PAPERS, MOST_REVIEWERS, MOST_PAIRS, MOST_LIMIT}
-use Rattle.match_rules.specs.Rules.{RulesValue, rules_value}
+use Rattle.match_rules.specs.Rules.{rules_value}
 use Rattle.text_lines.specs.declared.fault.TextFault.{TextFault}
 use Rattle.text_lines.specs.Fields.{fields}
-use Rattle.text_lines.specs.FirstFault.{Due, line_then, words_then, count_then, section_then}
+use Rattle.text_lines.specs.FirstFault.{Due, words_then, count_then, section_then}
 use Rattle.text_lines.specs.Forms.{fixed, number_after, section_at}
-use Rattle.text_lines.specs.LineTests.{words_tests, count_tests, count_of}
 use Rattle.text_lines.specs.Reading.{◌>>=◌, Cursor, due}
-use Rattle.text_lines.proofs.FaultLaws.{Tracks, tracks_done, tracks_due, tracks_then}
+use Rattle.text_lines.proofs.FaultLaws.{Tracks, tracks_done, tracks_then}
 use Rattle.text_lines.proofs.FormFaults.{tracks_words, tracks_count, tracks_section}
 use Rattle.publication.specs.DueLines.{lists_then, rules_then}
 use Rattle.publication.specs.RulesReading.{paper_of, reviewer_of, pair_of, head_at, lists_at, rules_at}
