@@ -1,6 +1,6 @@
 -- Counts of a next assignment that stand from piece to piece, each until the ticket at which it is due. Tickets are counted
 -- from the first piece on: those that are not left are used.
-use Rattle.std.specs.Prelude.{◌≡◌, ◌≢◌, ℕ, ◌+◌, ◌*◌, ◌<◌, ◌≤◌, ◌⊎◌, List, length, slice_index}
+use Rattle.std.specs.Prelude.{◌≡◌, ◌≢◌, ℕ, ◌+◌, ◌*◌, ◌<◌, ◌≤◌, ◌⊎◌, List, length, slice_index, pos}
 use Rattle.match_rules.specs.Rules.{RulesValue}
 use Rattle.bounded_network.specs.declared.network.Arc.{Arc}
 use Rattle.bounded_network.specs.Compile.{amounts_in, flow_of, place_count}
@@ -24,6 +24,10 @@ pub record IsLine (all left : ℕ) (arc : Arc) (count due amount : ℕ) : Type 0
   pub most : amount ≤ left * arc.room
   pub down : count ≡ arc.floor → due + amount ≡ all + left * arc.floor
   pub up : count ≡ arc.floor + 1 → due + (left * arc.floor + left) ≡ all + amount
+
+-- an arc on which an amount is rounded down to the floor or up to a unit more
+abbrev pub unit_arc : ℕ → Arc
+unit_arc floor = record { tail = 0; head = 1; floor = floor; room = floor + 1; cost = pos 0 }
 
 -- the bounds of an arc leave no choice, or its count is due between the tickets that are used and all
 abbrev pub IsTight : ℕ → ℕ → Arc → ℕ → Type 0

@@ -4,6 +4,7 @@ ghost use Rattle.std.specs.Prelude.{◌≡◌, [], ◌∷◌, true, false};
 ghost use Rattle.match_rules.specs.Examples.{small, thirds, two_houses, piece};
 ghost use Rattle.bounded_network.specs.Compile.{flow_of};
 ghost use Rattle.lottery_peel.specs.Peeling.{open_part, open_count, unwhole_count, limit, same_places};
+ghost use Rattle.lottery_peel.specs.Standing.{IsLine, unit_arc};
 
 /// Amounts that are rounded, and for how many tickets their counts may stand.
 pub fn worked_steps()
@@ -29,6 +30,11 @@ pub fn worked_steps()
     // Two reviewers of one house with half of the tickets each: their group has all, and is whole.
     ensures houses { unwhole_count two_houses (5000 ∷ (5000 ∷ (10000 ∷ []))) ≡ 4 }
     ensures all_whole { unwhole_count (small 10000) (10000 ∷ (0 ∷ (0 ∷ (10000 ∷ [])))) ≡ 0 }
+    // Of 10,000 tickets an amount of 3,000 has none until 7,000 are used, or one until 3,000 are; turned at ticket 1,000, with 3,000
+    // of the 9,000 that are left, it has one until ticket 4,000.
+    ensures due_low { IsLine 10000 10000 (unit_arc 0) 0 7000 3000 }
+    ensures due_high { IsLine 10000 10000 (unit_arc 0) 1 3000 3000 }
+    ensures due_turned { IsLine 10000 9000 (unit_arc 0) 1 4000 3000 }
     // Places, and not weights, tell pieces apart.
     ensures same { same_places (piece 7000 (0 ∷ (3 ∷ []))) (piece 3000 (0 ∷ (3 ∷ []))) ≡ true }
     ensures other { same_places (piece 7000 (0 ∷ (3 ∷ []))) (piece 7000 (1 ∷ (2 ∷ []))) ≡ false }

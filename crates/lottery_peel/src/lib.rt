@@ -6,7 +6,14 @@
 // pieces have exactly the shares, and each of them is rounded from all shares, since the bounds of an amount only narrow.
 // A piece settles an amount that was open, so there are few.
 //
-// `specs/Peeling.antt` has the definitions; `proofs/` has the laws of one amount, of lists, of flows and of the loop.
+// The first assignment is a flow of the network with rounded bounds. It stands from piece to piece (`Standing`): each count has a
+// ticket at which it is due, which doesn't change while it stands. At that ticket the amount is a multiple, and the count is
+// given its other bound by a turn (`unit_turns`), after which the bounds leave no other. A turn always finds a way, since the
+// amounts that are left are balanced between the bounds times the tickets that are left. What is left of the shares is kept in rows of
+// the pairs that still have tickets (`sparse_shares`).
+//
+// `specs/Peeling.antt` has the definitions of a step and of the pieces, `specs/Standing.antt` those of the counts that stand;
+// `proofs/` has the laws of one amount, of lists, of flows, of networks and of the loop.
 #![tactic(auto)]
 
 mod dues;

@@ -4,8 +4,10 @@
 // place without tickets has no row: it is dropped when its last ticket is given, and nothing passes over it again.
 #![tactic(auto)]
 
+mod examples;
 mod rows;
 mod sparse;
 
+pub use examples::worked_rows;
 pub use rows::Row;
 pub use sparse::SparseShares;

@@ -1,4 +1,4 @@
-use Rattle.std.proofs.Common.{◌≡◌, ◌<◌, ℕ, length, refl, subst, arith}
+use Rattle.std.proofs.Common.{◌≡◌, length, refl, arith}
 use Rattle.sparse_shares.specs.Rows.{row_at}
 use Rattle.sparse_shares.proofs.RowLaws.{AreGiven, row-enough, given-more, given-all}
 use Rattle.sparse_shares.proofs.rows.rows_left.Goals as goal
