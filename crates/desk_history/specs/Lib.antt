@@ -1,0 +1,9 @@
+pub mod Outcomes
+pub mod Histories
+pub mod Rows
+pub mod SameCommands
+pub mod Refusals
+pub mod Looks
+pub mod Steps
+pub mod Opened
+pub mod Examples
