@@ -6,4 +6,5 @@ pub mod Refusals
 pub mod Looks
 pub mod Steps
 pub mod Opened
+pub mod Tables
 pub mod Examples

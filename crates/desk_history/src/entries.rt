@@ -30,9 +30,17 @@ pub enum Entry {
         read: Option<Certificate>,
     },
     /// A bench has taken a job.
-    Took { bench: u32, job: u64 },
+    Took {
+        bench: u32,
+        job: u64,
+    },
     /// A bench has ended its job.
-    Ended { bench: u32, work: Work },
+    Ended {
+        bench: u32,
+        work: Work,
+    },
     /// A bench has let its job go.
-    Released { bench: u32 },
+    Released {
+        bench: u32,
+    },
 }

@@ -62,15 +62,26 @@ impl PairList {
 #[derive(Drop)]
 pub enum Answered {
     /// The number of the edition that an edit made.
-    Edited { edition: u64 },
+    Edited {
+        edition: u64,
+    },
     /// The number of the job that was submitted.
-    Submitted { job: u64 },
+    Submitted {
+        job: u64,
+    },
     /// The number of a publication.
-    Published { publication: u64 },
+    Published {
+        publication: u64,
+    },
     /// The ticket that was drawn of a publication.
-    Drawn { publication: u64, ticket: u32 },
+    Drawn {
+        publication: u64,
+        ticket: u32,
+    },
     /// The number of the present edition.
-    Edition { edition: u64 },
+    Edition {
+        edition: u64,
+    },
     /// The rules of the present edition.
     Rules(Rules),
     /// A job, with the number of its edition.
@@ -83,11 +94,18 @@ pub enum Answered {
     /// Rules and the answer to them.
     Certificate(Certificate),
     /// The pairs that a ticket draws, in the order of the rules.
-    Pairs { pairs: PairList },
+    Pairs {
+        pairs: PairList,
+    },
     /// A job for a bench.
     Taken(Snapshot),
     /// What the job of a bench came to.
-    Finished { job: u64, outcome: Outcome },
+    Finished {
+        job: u64,
+        outcome: Outcome,
+    },
     /// The number of the job that a bench let go.
-    Released { job: u64 },
+    Released {
+        job: u64,
+    },
 }
