@@ -1,1 +1,3 @@
 mod TableLaws
+mod OpenJobs
+mod BenchLaws

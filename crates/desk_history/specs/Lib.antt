@@ -7,4 +7,6 @@ pub mod Looks
 pub mod Steps
 pub mod Opened
 pub mod Tables
+pub mod Laws
+pub mod Courses
 pub mod Examples

@@ -1,6 +1,6 @@
 // The tables of a desk: what follows from its history, kept at hand; and what each entry changes in them.
 
-ghost use Rattle.std.specs.Prelude.{◌≡◌, ◌<◌, ◌≤◌, ◌+◌, ◌∷◌, ℕ, List, Ok, Option, length, vec_len, vec_capacity};
+ghost use Rattle.std.specs.Prelude.{◌≡◌, ◌<◌, ◌≤◌, ◌+◌, ◌∷◌, ℕ, List, None, Ok, Option, length, slice_set, vec_len, vec_capacity};
 ghost use Rattle.publication.specs.Draws.{ticket_of};
 ghost use Rattle.publication.specs.declared.certificate.Certificate.{Certificate};
 ghost use Rattle.venue_rules.specs.VenueRules.{rules_of};
@@ -64,7 +64,8 @@ impl Tables {
     /// A bench has let its job go.
     pub fn note_release(&mut self, bench: u32)
         requires { bench < BENCHES }
-        ensures { (H : History) → AreTables H self.old → AreTables (Released bench ∷ H) self.new }
+        ensures tables { (H : History) → AreTables H self.old → AreTables (Released bench ∷ H) self.new }
+        ensures benches { self.new.benches ≡ slice_set self.old.benches bench None }
     {
         let held = self.benches[bench as usize];
         job_changes::release_held(&mut self.jobs, held);
@@ -74,7 +75,8 @@ impl Tables {
     /// A bench has ended its job, by the entry at this place.
     pub fn note_end(&mut self, bench: u32, work: &Work, place: u64)
         requires { bench < BENCHES }
-        ensures { (H : History) → length H ≡ place → AreTables H self.old → AreTables (Ended bench work.now ∷ H) self.new }
+        ensures tables { (H : History) → length H ≡ place → AreTables H self.old → AreTables (Ended bench work.now ∷ H) self.new }
+        ensures benches { self.new.benches ≡ slice_set self.old.benches bench None }
     {
         let held = self.benches[bench as usize];
         job_changes::end_held(&mut self.jobs, held, work, place);

@@ -4,8 +4,8 @@ use Rattle.desk_history.specs.Histories.{History, ended, held, jobs, with_held}
 use Rattle.desk_history.proofs.TableLaws.{bench_put}
 use Rattle.desk_history.proofs.tables.Tables.note_end.Goals as goal
 
-pub returns : goal.returns
-returns c H place are = record {
+pub returns-clause-tables : goal.returns-clause-tables
+returns-clause-tables c H place are = record {
   venue = are.venue;
   rules = are.rules;
   edits = are.edits;

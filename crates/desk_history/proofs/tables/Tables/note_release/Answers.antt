@@ -5,8 +5,8 @@ use Rattle.desk_history.specs.Histories.{History, changed, held, jobs, with_held
 use Rattle.desk_history.proofs.TableLaws.{bench_put}
 use Rattle.desk_history.proofs.tables.Tables.note_release.Goals as goal
 
-pub returns : goal.returns
-returns c H are = record {
+pub returns-clause-tables : goal.returns-clause-tables
+returns-clause-tables c H are = record {
   venue = are.venue;
   rules = are.rules;
   edits = are.edits;
