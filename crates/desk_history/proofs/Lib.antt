@@ -1,3 +1,4 @@
-mod TableLaws
+pub mod TableLaws
 mod OpenJobs
 mod BenchLaws
+pub mod DueLaws

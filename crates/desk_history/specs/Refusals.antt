@@ -17,7 +17,7 @@ use Rattle.desk_history.specs.declared.jobs.Publication.{Publication}
 use Rattle.desk_history.specs.declared.jobs.Outcome.{Outcome}
 use Rattle.desk_history.specs.declared.jobs.Outcome.TheVariants as outcome
 use Rattle.desk_history.specs.declared.refusals.Refusal.{Refusal}
-use Rattle.desk_history.specs.declared.refusals.Refusal.TheVariants.{Memory, OtherBase, Import, Limit, UnknownJob, NotDone, Stale, NotCertified, AlreadyPublished, UnknownPublication, AlreadyDrawn, HistoryFull}
+use Rattle.desk_history.specs.declared.refusals.Refusal.TheVariants.{KeeperFault, Memory, OtherBase, Import, Limit, UnknownJob, NotDone, Stale, NotCertified, AlreadyPublished, UnknownPublication, AlreadyDrawn, HistoryFull}
 use Rattle.desk_history.specs.declared.refusals.TheConstants.{MOST_COMMANDS, MOST_ROW_BYTES}
 use Rattle.desk_history.specs.Outcomes.{Reads, after}
 use Rattle.desk_history.specs.Histories.{History, commands, edits, job_of, nth_of, present, publications, put}
@@ -99,9 +99,10 @@ full_refusal commands bytes = refuse_if (nat_le MOST_COMMANDS commands || nat_lt
 abbrev pub refusal_of : History → Named → Option Certificate → Option Refusal
 refusal_of H its read = first_of_two (own_refusal H its.command read) (full_refusal (commands H) (bytes H + length (row_behind H its read)))
 
--- the refusal is the one that is due; want of memory may come in place of any answer
+-- the refusal is the one that is due; want of memory may come in place of any answer, and the keeper isn't asked here
 abbrev pub IsDue : Option Refusal → Refusal → Type 0
 IsDue due Memory = ⊤
+IsDue due KeeperFault = ⊥
 IsDue due refusal = due ≡ Some refusal
 
 -- the edit is accepted: its venue, and the rules of it

@@ -53,8 +53,8 @@ fn takable(tables: &Tables, bench: u32) -> Result<(u64, Job), Refusal>
     }
 }
 
-// One entry more, for which there has to be room.
-fn push(entries: &mut Vec<Entry>, entry: Entry)
+/// One entry more, for which there has to be room.
+pub fn push(entries: &mut Vec<Entry>, entry: Entry)
     requires { vec_len entries.old < vec_capacity entries.old }
     ensures entry { history_of entries.new ≡ entry ∷ history_of entries.old }
     ensures len { vec_len entries.new ≡ vec_len entries.old + 1 }
@@ -90,8 +90,8 @@ fn snapshot(alloc: Global, rules: &Rules, number: u64, job: Job) -> Result<Snaps
     })
 }
 
-// Room for a take and for the ends of all benches.
-fn reserve(entries: &mut Vec<Entry>) -> Result<(), AllocError>
+/// Room for one entry more and for the ends of all benches.
+pub fn reserve(entries: &mut Vec<Entry>) -> Result<(), AllocError>
     ensures items { entries.new.items ≡ entries.old.items }
     ensures len { vec_len entries.new ≡ vec_len entries.old }
     ensures capacity { vec_capacity entries.old ≤ vec_capacity entries.new }

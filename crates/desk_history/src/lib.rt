@@ -15,10 +15,11 @@ mod replies;
 mod requests;
 mod tables;
 
-pub use benches::{finish, release, take};
+pub use benches::{finish, push, release, reserve, take};
 pub use edit_making::make_edition;
 pub use entries::{Done, Entry};
 pub use examples::{worked_draw, worked_histories, worked_session};
+pub use job_changes::nth;
 pub use jobs::{Grade, Job, Outcome, Publication};
 pub use laws::history_laws;
 pub use reasons::{base_refusal, draw_refusal, full_refusal, publish_refusal};
