@@ -2,3 +2,4 @@ pub mod TableLaws
 mod OpenJobs
 mod BenchLaws
 pub mod DueLaws
+pub mod RowLaws

@@ -154,7 +154,11 @@ fn note_release(entries: &mut Vec<Entry>, tables: &mut Tables, bench: u32)
 }
 
 /// A bench that has a job lets it go. Takes no memory.
-pub fn release(entries: &mut Vec<Entry>, tables: &mut Tables, bench: u32) -> Result<Answered, Refusal>
+pub fn release(
+    entries: &mut Vec<Entry>,
+    tables: &mut Tables,
+    bench: u32,
+) -> Result<Answered, Refusal>
     requires bench { bench < BENCHES }
     requires kept { AreKept entries.old tables.old }
     ensures step { Does (release_step (history_of entries.old) bench) (history_of entries.old) result (history_of entries.new) }
@@ -206,7 +210,10 @@ pub fn finish(
         Some(job) => {
             let outcome = after_end(job.outcome, &work);
             note_end(entries, tables, bench, work);
-            Ok(Answered::Finished { job: number, outcome })
+            Ok(Answered::Finished {
+                job: number,
+                outcome,
+            })
         }
     }
 }

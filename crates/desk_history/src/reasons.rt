@@ -1,6 +1,6 @@
 // Why a command is refused: each reason, and the first of them in their order.
 
-ghost use Rattle.std.specs.Prelude.{◌≡◌, ◌+◌, ◌<◌, ◌^◌};
+ghost use Rattle.std.specs.Prelude.{◌≡◌, ◌<◌, ◌≤◌, IsNone};
 ghost use Rattle.desk_history.specs.Refusals.{base_refusal, counted, draw_refusal, full_refusal, is_open, is_without, publish_refusal, publishing_refusal};
 
 use crate::jobs::{Job, Outcome, Publication};
@@ -93,7 +93,8 @@ pub fn draw_refusal(publication: Option<Publication>) -> Option<Refusal>
 
 /// So many commands leave no room for a further one, or the bytes of the rows with the new one are too many.
 pub fn full_refusal(commands: u64, bytes: u64) -> Option<Refusal>
-    ensures { result ≡ full_refusal commands bytes }
+    ensures value { result ≡ full_refusal commands bytes }
+    ensures room { IsNone result → (commands < MOST_COMMANDS) × (bytes ≤ MOST_ROW_BYTES) }
 {
     if commands >= MOST_COMMANDS {
         return Some(Refusal::HistoryFull { commands, bytes });

@@ -5,6 +5,7 @@ use Rattle.desk_keeper.specs.declared.words.Named.{Named}
 use Rattle.desk_history.specs.declared.entries.Entry.{Entry}
 use Rattle.desk_history.specs.declared.refusals.Refusal.{Refusal}
 use Rattle.desk_history.specs.declared.refusals.Refusal.TheVariants.{KeeperFault, Memory}
+use Rattle.desk_history.specs.declared.refusals.TheConstants.{MOST_COMMANDS, MOST_ROW_BYTES}
 use Rattle.desk_history.specs.declared.tables.Tables.{Tables}
 use Rattle.desk_history.specs.Courses.{AreKept, full, history_of}
 use Rattle.desk_history.specs.Histories.{History}
@@ -24,6 +25,15 @@ AnswersRow commands bytes text (Err refusal) = IsDue (full_refusal commands (byt
 abbrev pub AnswersCommand : History → Named → Result (Vec ℕ Global) Refusal → Type 0
 AnswersCommand H its (Ok row) = (row.items ≡ row_behind H its None) × (refusal_of H its None ≡ None)
 AnswersCommand H its (Err refusal) = IsDue (refusal_of H its None) refusal
+
+-- there is room for a command more, with this row
+abbrev pub HasRoom : ℕ → ℕ → Vec ℕ Global → Type 0
+HasRoom commands bytes row = (commands < MOST_COMMANDS) × (bytes + length row.items ≤ MOST_ROW_BYTES)
+
+-- there is room for an entry more, for the ends of all benches and for a job more
+pub record HasPlace (entries : Vec Entry Global) (tables : Tables) : Type 0 where
+  pub entry : vec_len entries + 17 ≤ vec_capacity entries
+  pub jobs : vec_len tables.jobs < vec_capacity tables.jobs
 
 -- a keeper fails, or memory is wanting
 abbrev pub IsKeeping : Refusal → Type 0

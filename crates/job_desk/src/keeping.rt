@@ -1,11 +1,11 @@
 // Rows of commands, and their keeping.
 
-ghost use Rattle.std.specs.Prelude.{◌≡◌, ◌≤◌, ℕ, List, IfErr, IsErrOf};
+ghost use Rattle.std.specs.Prelude.{◌≡◌, ◌≤◌, ℕ, List, IfErr, IfOk, IsErrOf};
 ghost use Rattle.edge_io.specs.Counts.{Rose};
 ghost use Rattle.desk_keeper.specs.Keepers.{IsNext, Tells};
 ghost use Rattle.desk_keeper.specs.Rows.{MayKeep, row_of};
 ghost use Rattle.desk_history.specs.declared.refusals.TheConstants.{MOST_ROW_BYTES};
-ghost use Rattle.job_desk.specs.Keeping.{AnswersRow, IsKeeping, rows_after};
+ghost use Rattle.job_desk.specs.Keeping.{AnswersRow, HasRoom, IsKeeping, rows_after};
 
 use desk_history::{Refusal, full_refusal};
 use desk_keeper::{KeepFault, Keeper, Named, encode};
@@ -21,7 +21,8 @@ pub fn row_for(
 ) -> Result<Vec<u8>, Refusal>
     requires kept { MayKeep named.now lottery.now }
     requires bytes { bytes ≤ MOST_ROW_BYTES }
-    ensures { AnswersRow commands bytes (row_of named.now lottery.now) result }
+    ensures row { AnswersRow commands bytes (row_of named.now lottery.now) result }
+    ensures room { IfOk result (HasRoom commands bytes) }
 {
     let row = match encode(alloc, named, lottery) {
         Ok(row) => row,

@@ -7,3 +7,4 @@ mod submits;
 
 pub use keeping::{append, row_for};
 pub use rows_of_commands::{row_of_draw, row_of_submit};
+pub use submits::submit;

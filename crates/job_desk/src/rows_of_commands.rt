@@ -1,16 +1,16 @@
 // The rows of new commands, or why they are refused: the first reason in the order of the table.
 
-ghost use Rattle.std.specs.Prelude.{◌≡◌, ◌≤◌, ℕ, List, true};
+ghost use Rattle.std.specs.Prelude.{◌≡◌, ◌≤◌, ℕ, List, IfOk, true};
 ghost use Rattle.desk_keeper.specs.Names.{is_chair_name};
 ghost use Rattle.desk_keeper.specs.declared.words.Command.TheVariants.{Draw, Submit};
 ghost use Rattle.desk_history.specs.declared.refusals.TheConstants.{MOST_ROW_BYTES};
 ghost use Rattle.desk_history.specs.Histories.{History};
 ghost use Rattle.desk_history.specs.Tables.{AreTables};
-ghost use Rattle.job_desk.specs.Keeping.{AnswersCommand};
+ghost use Rattle.job_desk.specs.Keeping.{AnswersCommand, HasRoom};
 
 use crate::keeping::row_for;
 use desk_history::{Refusal, Tables, base_refusal, draw_refusal, nth};
-use desk_keeper::{Named};
+use desk_keeper::Named;
 use match_rules::Mode;
 use std::alloc::Global;
 
@@ -25,7 +25,8 @@ pub fn row_of_submit(
     requires command { named.now.command ≡ Submit base mode }
     requires caller { is_chair_name named.now.caller ≡ true }
     requires bytes { tables.now.bytes ≤ MOST_ROW_BYTES }
-    ensures { (H : History) → AreTables H tables.now → AnswersCommand H named.now result }
+    ensures row { (H : History) → AreTables H tables.now → AnswersCommand H named.now result }
+    ensures room { IfOk result (HasRoom tables.now.commands tables.now.bytes) }
 {
     match base_refusal(tables.edits, base) {
         Some(refusal) => Err(refusal),
@@ -43,7 +44,8 @@ pub fn row_of_draw(
     requires command { (text : List ℕ) × (named.now.command ≡ Draw publication text) }
     requires caller { is_chair_name named.now.caller ≡ true }
     requires bytes { tables.now.bytes ≤ MOST_ROW_BYTES }
-    ensures { (H : History) → AreTables H tables.now → AnswersCommand H named.now result }
+    ensures row { (H : History) → AreTables H tables.now → AnswersCommand H named.now result }
+    ensures room { IfOk result (HasRoom tables.now.commands tables.now.bytes) }
 {
     match draw_refusal(nth(tables.publications.as_slice(), publication)) {
         Some(refusal) => Err(refusal),

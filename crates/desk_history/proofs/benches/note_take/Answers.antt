@@ -8,7 +8,7 @@ use Rattle.desk_history.proofs.benches.note_take.Goals as goal
 pub returns-clause-kept : goal.returns-clause-kept
 returns-clause-kept c =
     let made : AreTables (history_of c.push.new.entries) c.note_take.new.self =
-        subst (λ (h : History). AreTables h c.note_take.new.self) (sym c.push.ensures.entry) (c.note_take.ensures (history_of c.args.entries.now) c.requires.kept.are) in
+    subst (λ (h : History). AreTables h c.note_take.new.self) (sym c.push.ensures.entry) (c.note_take.ensures (history_of c.args.entries.now) c.requires.kept.are) in
     let few : full c.note_take.new.self.benches ≤ length c.note_take.new.self.benches = full_bound c.note_take.new.self.benches in
     record {
       are = made;

@@ -19,6 +19,7 @@ returns-clause-step c =
     let takes : Entry = Took c.args.bench found.0 in
     let can : IsTakable H c.args.bench (Ok found) = subst (λ (r : Result (ℕ × Job) Refusal). IsTakable H c.args.bench r) c.in-Ok.is (c.takable.ensures H c.requires.kept.are) in
     let same : take_step H c.args.bench ≡ made (Taken c.in-Ok-snapshot.snapshot) takes =
-        taken H c.args.tables.now c.args.bench found c.requires.kept.are can ∙ ap (λ (s : Snapshot). made (Taken s) takes) (sym c.in-Ok-snapshot.ensures) in
-    (ap (λ (s : Step). s.reply) same,
-        c.note_take.ensures.entry ∙ ap (λ (items : List Entry). takes ∷ reverse items) c.reserve.ensures.items ∙ sym (ap (λ (s : Step). with_entry s.entry H) same))
+    taken H c.args.tables.now c.args.bench found c.requires.kept.are can ∙ ap (λ (s : Snapshot). made (Taken s) takes) (sym c.in-Ok-snapshot.ensures) in (
+      ap (λ (s : Step). s.reply) same,
+      c.note_take.ensures.entry ∙ ap (λ (items : List Entry). takes ∷ reverse items) c.reserve.ensures.items ∙ sym (ap (λ (s : Step). with_entry s.entry H) same),
+    )
