@@ -1,0 +1,5 @@
+pub mod TableLaws
+mod OpenJobs
+mod BenchLaws
+pub mod DueLaws
+pub mod RowLaws

@@ -1,0 +1,12 @@
+pub mod Outcomes
+pub mod Histories
+pub mod Rows
+pub mod SameCommands
+pub mod Refusals
+pub mod Looks
+pub mod Steps
+pub mod Opened
+pub mod Tables
+pub mod Laws
+pub mod Courses
+pub mod Examples

@@ -1,0 +1,54 @@
+// The rows of new commands, or why they are refused: the first reason in the order of the table.
+
+ghost use Rattle.std.specs.Prelude.{◌≡◌, ◌≤◌, ℕ, List, IfOk, true};
+ghost use Rattle.desk_keeper.specs.Names.{is_chair_name};
+ghost use Rattle.desk_keeper.specs.declared.words.Command.TheVariants.{Draw, Submit};
+ghost use Rattle.desk_history.specs.declared.refusals.TheConstants.{MOST_ROW_BYTES};
+ghost use Rattle.desk_history.specs.Histories.{History};
+ghost use Rattle.desk_history.specs.Tables.{AreTables};
+ghost use Rattle.job_desk.specs.Keeping.{AnswersCommand, HasRoom};
+
+use crate::keeping::row_for;
+use desk_history::{Refusal, Tables, base_refusal, draw_refusal, nth};
+use desk_keeper::Named;
+use match_rules::Mode;
+use std::alloc::Global;
+
+/// The row of a submit, or why it is refused.
+pub fn row_of_submit(
+    alloc: Global,
+    tables: &Tables,
+    named: &Named,
+    base: u64,
+    mode: Mode,
+) -> Result<Vec<u8>, Refusal>
+    requires command { named.now.command ≡ Submit base mode }
+    requires caller { is_chair_name named.now.caller ≡ true }
+    requires bytes { tables.now.bytes ≤ MOST_ROW_BYTES }
+    ensures row { (H : History) → AreTables H tables.now → AnswersCommand H named.now result }
+    ensures room { IfOk result (HasRoom tables.now.commands tables.now.bytes) }
+{
+    match base_refusal(tables.edits, base) {
+        Some(refusal) => Err(refusal),
+        None => row_for(alloc, tables.commands, tables.bytes, named, &[]),
+    }
+}
+
+/// The row of a draw, or why it is refused.
+pub fn row_of_draw(
+    alloc: Global,
+    tables: &Tables,
+    named: &Named,
+    publication: u64,
+) -> Result<Vec<u8>, Refusal>
+    requires command { (text : List ℕ) × (named.now.command ≡ Draw publication text) }
+    requires caller { is_chair_name named.now.caller ≡ true }
+    requires bytes { tables.now.bytes ≤ MOST_ROW_BYTES }
+    ensures row { (H : History) → AreTables H tables.now → AnswersCommand H named.now result }
+    ensures room { IfOk result (HasRoom tables.now.commands tables.now.bytes) }
+{
+    match draw_refusal(nth(tables.publications.as_slice(), publication)) {
+        Some(refusal) => Err(refusal),
+        None => row_for(alloc, tables.commands, tables.bytes, named, &[]),
+    }
+}
