@@ -44,13 +44,16 @@ whole_best rules mode winning are v whole = verdict-whole-best rules (Lottery wi
 -- a verdict whose text was written
 pub verdict_solves : (rules : RulesValue) (mode : Mode) (answer : Answer) (old : List ℕ) (new : Option (List ℕ)) → AreRules rules → IsVerdict rules mode answer → IsSpelled answer
     → Written old new (certificate_text rules answer) → SolvesRules (status_of answer) rules mode old new
-verdict_solves rules mode (Lottery winning) old new are v spelled written =
-    (winning, record {
-      won = v;
-      best = verdict-best rules mode (Lottery winning) are v;
-      best_of_all = whole_best rules mode winning are v;
-      readable = verdict_certificate rules mode (Lottery winning) are v spelled;
-    }, written)
+verdict_solves rules mode (Lottery winning) old new are v spelled written = (
+  winning,
+  record {
+    won = v;
+    best = verdict-best rules mode (Lottery winning) are v;
+    best_of_all = whole_best rules mode winning are v;
+    readable = verdict_certificate rules mode (Lottery winning) are v spelled;
+  },
+  written,
+)
 verdict_solves rules mode (Infeasible blocked) old new are v spelled written =
     (blocked, record { forbidden = v; readable = verdict_certificate rules mode (Infeasible blocked) are v spelled }, written)
 

@@ -31,18 +31,11 @@ fn rules_of(alloc: Global, text: &str) -> Result<Rules, Fail> {
 
 // The text of a lottery with this mode, threshold and cut.
 fn lottery(alloc: Global, mode: &str, threshold: &str, cut: &str) -> Result<String, Fail> {
-    Ok(format!(in alloc;
-        "lottery 1\nmode {mode}\nthreshold {threshold}\n{EVIDENCE}{cut}{PIECES}"
-    )?)
+    Ok(format!(in alloc; "lottery 1\nmode {mode}\nthreshold {threshold}\n{EVIDENCE}{cut}{PIECES}")?)
 }
 
 // The first break of a lottery of the mode fair.
-fn checked(
-    alloc: Global,
-    rules: &str,
-    threshold: &str,
-    cut: &str,
-) -> Result<Option<Break>, Fail> {
+fn checked(alloc: Global, rules: &str, threshold: &str, cut: &str) -> Result<Option<Break>, Fail> {
     let rules = rules_of(alloc, rules)?;
     let text = lottery(alloc, "fair", threshold, cut)?;
     let answer = read_answer(alloc, &rules, text.as_bytes())?;
@@ -55,13 +48,32 @@ fn thresholds_are_checked(rt: HostRuntime) -> Result<(), Fail> {
     let alloc = rt.alloc();
     assert!(rt; checked(alloc, RULES, "500000", CUT)?.is_none());
     assert!(rt; checked(alloc, LOCKED_RULES, "free", NO_CUT)?.is_none());
-    assert!(rt; matches!(checked(alloc, RULES, "free", NO_CUT)?, Some(Break::Below { pair: 0 })));
-    assert!(rt; matches!(checked(alloc, RULES, "800000", CUT)?, Some(Break::Below { pair: 3 })));
     assert!(rt;
-        matches!(checked(alloc, RULES, "400000", CUT)?, Some(Break::NoSuchScore { score: 400000 }))
+        matches!(
+            checked(alloc, RULES, "free", NO_CUT)?,
+            Some(Break::Below { pair: 0 })
+        )
     );
     assert!(rt;
-        matches!(checked(alloc, RULES, "0", CUT)?, Some(Break::Above { need: 20000, room: 20000 }))
+        matches!(
+            checked(alloc, RULES, "800000", CUT)?,
+            Some(Break::Below { pair: 3 })
+        )
+    );
+    assert!(rt;
+        matches!(
+            checked(alloc, RULES, "400000", CUT)?,
+            Some(Break::NoSuchScore { score: 400000 })
+        )
+    );
+    assert!(rt;
+        matches!(
+            checked(alloc, RULES, "0", CUT)?,
+            Some(Break::Above {
+                need: 20000,
+                room: 20000
+            })
+        )
     );
     Ok(())
 }
@@ -82,7 +94,9 @@ fn answers_are_written_as_they_were_read(rt: HostRuntime) -> Result<(), Fail> {
         lottery(alloc, "fair", "500000", CUT)?,
         lottery(alloc, "fair", "free", NO_CUT)?,
         lottery(alloc, "whole", "none", NO_CUT)?,
-        format!(in alloc; "infeasible 1\nmode fair\n{CUT}need 20000\nroom 10000\nend infeasible\n")?,
+        format!(in alloc;
+            "infeasible 1\nmode fair\n{CUT}need 20000\nroom 10000\nend infeasible\n"
+        )?,
     ] {
         let sink = written_again(alloc, text.as_str())?;
         assert_eq!(rt; sink.bytes(), text.as_bytes());
@@ -95,10 +109,12 @@ fn wrong_form(alloc: Global, mode: &str, threshold: &str, cut: &str) -> Result<O
     let rules = rules_of(alloc, RULES)?;
     let text = lottery(alloc, mode, threshold, cut)?;
     match read_answer(alloc, &rules, text.as_bytes()) {
-        Err(ReadRefusal::BadLine {
-            number,
-            code: LineCode::Form,
-        }) => Ok(Some(number)),
+        Err(
+            ReadRefusal::BadLine {
+                number,
+                code: LineCode::Form,
+            },
+        ) => Ok(Some(number)),
         _ => Ok(None),
     }
 }
