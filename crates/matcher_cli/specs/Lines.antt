@@ -1,7 +1,12 @@
 -- The lines that the check writes.
 use Rattle.std.specs.Prelude.{ℕ, ℤ, List, ◌++◌, length, codes}
+use Rattle.std.specs.Fmt.{signed_decimal}
 use Rattle.match_rules.specs.declared.answer.Answer.{Answer}
 use Rattle.match_rules.specs.declared.answer.Answer.TheVariants.{Lottery, Infeasible}
+use Rattle.match_rules.specs.declared.answer.Level.{Level}
+use Rattle.match_rules.specs.declared.answer.Level.TheVariants.{Unasked, Free, At}
+use Rattle.match_rules.specs.declared.answer.Mode.{Mode}
+use Rattle.match_rules.specs.declared.answer.Mode.TheVariants.{Whole, Fair}
 use Rattle.match_rules.specs.declared.breaks.Break.{Break}
 use Rattle.match_rules.specs.declared.breaks.Break.TheVariants as broken
 use Rattle.text_lines.specs.declared.fault.LineCode.{LineCode}
@@ -26,12 +31,28 @@ two_signed label number other second = (labelled_signed label number ++ labelled
 unfoldable pub one_signed : List ℕ → ℤ → List ℕ
 one_signed label number = labelled_signed label number ++ codes "\n"
 
-unfoldable pub signed_and_number : List ℕ → ℤ → List ℕ → ℕ → List ℕ
-signed_and_number label number other second = (labelled_signed label number ++ labelled other second) ++ codes "\n"
+-- the word of a mode
+unfoldable pub mode_word : Mode → List ℕ
+mode_word Whole = codes "whole"
+mode_word Fair = codes "fair"
 
--- the line of a valid answer of the mode whole
+-- the threshold of a level
+unfoldable pub level_word : Level → List ℕ
+level_word Unasked = codes "none"
+level_word Free = codes "free"
+level_word (At score cut) = signed_decimal score
+
+-- the mode and the threshold of a valid lottery
+unfoldable pub valid_words : Mode → Level → List ℕ
+valid_words mode level = ((codes "valid " ++ mode_word mode) ++ codes " threshold ") ++ level_word level
+
+-- and its total and the number of its pieces
+unfoldable pub lottery_line : Mode → Level → ℤ → ℕ → List ℕ
+lottery_line mode level total pieces = ((valid_words mode level ++ labelled_signed (codes " total ") total) ++ labelled (codes " pieces ") pieces) ++ codes "\n"
+
+-- the line of a valid answer
 abbrev pub valid_line : Answer → List ℕ
-valid_line (Lottery winning) = signed_and_number (codes "valid whole threshold none total ") winning.total (codes " pieces ") (length winning.lottery)
+valid_line (Lottery winning) = lottery_line winning.mode winning.level winning.total (length winning.lottery)
 valid_line (Infeasible blocked) = two_numbers (codes "valid infeasible need ") blocked.need (codes " room ") blocked.room
 
 -- the line of a broken clause

@@ -1,8 +1,8 @@
 // The lines that the check writes.
-ghost use Rattle.std.specs.Prelude.{◌≡◌, ◌≤◌, length, codes};
-ghost use Rattle.matcher_cli.specs.Lines.{signed_and_number, valid_line, broken_line, one_number, two_numbers, three_numbers, one_signed, two_signed, line_code_word, wrong_line, fault_line};
+ghost use Rattle.std.specs.Prelude.{◌≡◌, ◌≤◌, ◌+◌, ◌++◌, length, codes};
+ghost use Rattle.matcher_cli.specs.Lines.{mode_word, level_word, valid_words, lottery_line, valid_line, broken_line, one_number, two_numbers, three_numbers, one_signed, two_signed, line_code_word, wrong_line, fault_line};
 
-use match_rules::{Answer, Break};
+use match_rules::{Answer, Break, Level, Mode};
 use text_lines::{LineBuffer, LineCode, TextFault};
 
 /// A labelled number and a line feed.
@@ -76,15 +76,50 @@ fn two_signed(label: &[u8], number: &i128, other: &[u8], second: &i128) -> LineB
     line
 }
 
-#[tactic(auto, unfolding(crate::specs::Lines::signed_and_number))]
-fn signed_and_number(label: &[u8], number: &i128, other: &[u8], second: u64) -> LineBuffer
-    requires label { length label.now ≤ 64 }
-    requires other { length other.now ≤ 64 }
-    ensures { result ≡ signed_and_number label.now number.now other.now second }
+#[tactic(auto, unfolding(crate::specs::Lines::mode_word))]
+fn mode_word(mode: Mode) -> &'static [u8]
+    ensures word { result.now ≡ mode_word mode }
+    ensures few { length result.now ≤ 8 }
+{
+    match mode {
+        Mode::Whole => b"whole",
+        Mode::Fair => b"fair",
+    }
+}
+
+#[tactic(auto, unfolding(crate::specs::Lines::level_word))]
+fn push_level(level: &Level, line: &mut LineBuffer)
+    requires { length line.old ≤ 64 }
+    ensures text { line.new ≡ line.old ++ level_word level.now }
+    ensures few { length line.new ≤ length line.old + 40 }
+{
+    match level {
+        Level::Unasked => line.push(b"none"),
+        Level::Free => line.push(b"free"),
+        Level::At { score, .. } => line.push_signed(i128::from(*score)),
+    }
+}
+
+#[tactic(auto, unfolding(crate::specs::Lines::valid_words))]
+fn valid_words(mode: Mode, level: &Level) -> LineBuffer
+    ensures words { result ≡ valid_words mode level.now }
+    ensures few { length result ≤ 128 }
 {
     let mut line = LineBuffer::new();
-    line.push_labelled_signed(label, *number);
-    line.push_labelled(other, second);
+    line.push(b"valid ");
+    line.push(mode_word(mode));
+    line.push(b" threshold ");
+    push_level(level, &mut line);
+    line
+}
+
+#[tactic(auto, unfolding(crate::specs::Lines::lottery_line))]
+fn lottery_line(mode: Mode, level: &Level, total: &i128, pieces: u64) -> LineBuffer
+    ensures { result ≡ lottery_line mode level.now total.now pieces }
+{
+    let mut line = valid_words(mode, level);
+    line.push_labelled_signed(b" total ", *total);
+    line.push_labelled(b" pieces ", pieces);
     line.push(b"\n");
     line
 }
@@ -209,17 +244,17 @@ fn in_piece(label: &[u8], piece: u32, what: &[u8], place: u32, count: u32) -> Li
     )
 }
 
-/// The line of a valid answer of the mode whole.
+/// The line of a valid answer.
 pub fn valid_line(answer: &Answer) -> LineBuffer
     ensures { result ≡ valid_line answer.now }
 {
     match answer {
         Answer::Lottery(winning) => {
             let pieces = winning.lottery.pieces();
-            signed_and_number(
-                b"valid whole threshold none total ",
+            lottery_line(
+                winning.mode,
+                &winning.level,
                 &winning.total,
-                b" pieces ",
                 pieces.len() as u64,
             )
         }
