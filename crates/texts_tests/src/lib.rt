@@ -4,8 +4,6 @@
 #[cfg(test)]
 mod certificates;
 #[cfg(test)]
-mod fair_answers;
-#[cfg(test)]
 mod files;
 #[cfg(test)]
 mod streams;
