@@ -1,6 +1,7 @@
 // A desk over a keeper: commands that are accepted are kept as rows.
 #![tactic(auto)]
 
+mod draws;
 mod keeping;
 mod rows_of_commands;
 mod submits;
