@@ -12,16 +12,16 @@ ghost use Rattle.desk_history.specs.Rows.{named, row_behind, rows};
 ghost use Rattle.desk_history.specs.Steps.{accepted, new_step};
 ghost use Rattle.job_desk.specs.Keeping.{AnswersCommand, HasRoom};
 
-use crate::keeping::append;
 use crate::rows_of_commands::row_of_draw;
 use desk_history::{Answered, Done, Entry, Refusal, Tables, push, reserve};
-use desk_keeper::{Bytes, Command, Keeper, Name, Named};
+use desk_keeper::{Bytes, Command, Name, Named};
 use match_rules::RULES_TICKETS;
 use publication::ticket_of;
 use std::alloc::Global;
 
-// A draw of this ticket is accepted, whose row has so many bytes.
-fn note_draw(
+/// A draw of this ticket is accepted, whose row has so many bytes; there has to be room for its entry and for the ends of all
+/// benches.
+pub fn note_draw(
     entries: &mut Vec<Entry>,
     tables: &mut Tables,
     caller: Name,
@@ -57,8 +57,8 @@ fn note_draw(
     );
 }
 
-// What a draw needs before it is kept: its row, and room. Or why it is refused.
-fn prepare(
+/// What a draw needs before it is kept: its row, and room. Or why it is refused; the history is then as it was.
+pub fn prepare_draw(
     alloc: Global,
     entries: &mut Vec<Entry>,
     tables: &Tables,
