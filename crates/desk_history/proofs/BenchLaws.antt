@@ -1,5 +1,5 @@
 -- What benches take, end and let go.
-use Rattle.std.proofs.Common.{◌≡◌, ◌+◌, ◌≤◌, ◌∷◌, ℕ, true, cond, eqb, eq-eqb, get_or, set, arith, vec_len, vec_capacity, Vec, Option, None, Some, IsSome, Ok, IfSome, ap, sym, refl, ◌∙◌, subst}
+use Rattle.std.proofs.Common.{◌≡◌, ◌+◌, ◌≤◌, ℕ, true, cond, eqb, eq-eqb, get_or, set, arith, vec_len, vec_capacity, Vec, Option, None, Some, IsSome, Ok, IfSome, ap, refl, ◌∙◌, subst}
 use Rattle.std.specs.declared.alloc.Global.{Global}
 use Rattle.venue_rules.specs.Venues.{VenueValue}
 use Rattle.venue_rules.specs.VenueRules.{rules_of}
@@ -11,13 +11,11 @@ use Rattle.desk_history.specs.declared.requests.Work.{Work}
 use Rattle.desk_history.specs.Outcomes.{Ends, after}
 use Rattle.desk_history.specs.declared.jobs.Job.{Job}
 use Rattle.desk_history.specs.declared.replies.Answered.TheVariants.{Finished, Taken}
-use Rattle.desk_history.specs.declared.replies.Snapshot.{Snapshot}
 use Rattle.desk_history.specs.declared.tables.Tables.{Tables}
 use Rattle.desk_history.specs.Courses.{AreKept, IsTakable, full, history_of}
-use Rattle.desk_history.specs.Histories.{History, edition, edits, held, job_of, jobs, present}
-use Rattle.desk_history.specs.Laws.{IsPresent}
+use Rattle.desk_history.specs.Histories.{History, edits, held, job_of, jobs}
 use Rattle.desk_history.specs.Looks.{refused, rules_at, rules_or_none}
-use Rattle.desk_history.specs.Steps.{finish_job, finish_step, first_waiting, holds, made, snapshot, take_at, take_first, take_step}
+use Rattle.desk_history.specs.Steps.{finish_job, finish_step, first_waiting, holds, made, take_at, take_first, take_step}
 use Rattle.desk_history.specs.Tables.{AreTables}
 use Rattle.desk_history.proofs.TableLaws.{full_none}
 use Rattle.desk_history.proofs.OpenJobs.{edition_present, first_present, open_jobs}

@@ -1,5 +1,5 @@
 -- A refusal that is due is that of the step.
-use Rattle.std.proofs.Common.{◌≡◌, Option, ap}
+use Rattle.std.proofs.Common.{Option, ap}
 use Rattle.desk_history.specs.declared.refusals.Refusal.{Refusal}
 use Rattle.desk_history.specs.declared.refusals.Refusal.TheVariants.{KeeperFault, Memory}
 use Rattle.desk_history.specs.Looks.{Step}

@@ -1,5 +1,5 @@
 -- Jobs that were not decided are of the present edition, and editions stay.
-use Rattle.std.proofs.Common.{◌≡◌, ℕ, ◌+◌, ◌-◌, ◌≤◌, ◌<◌, Bool, true, false, cond, eqb, List, [], ◌∷◌, ◌++◌, length, map, All, get_or, set, Option, None, Some, IfSome, ap, sym, refl, ◌∙◌, subst, arith, zero, suc, ltb}
+use Rattle.std.proofs.Common.{◌≡◌, ℕ, ◌+◌, ◌-◌, Bool, true, false, cond, eqb, List, [], ◌∷◌, length, All, get_or, Option, None, Some, IfSome, refl, subst, arith, zero, suc, ltb}
 use Rattle.std.proofs.lemmas.List.Elements.{All-set, All-map, All-append}
 use Rattle.std.proofs.lemmas.Bool.{false≢true}
 use Rattle.std.proofs.Common.{rules}
@@ -9,9 +9,7 @@ use Rattle.match_rules.specs.declared.answer.Answer.{Answer}
 use Rattle.match_rules.specs.declared.answer.Answer.TheVariants.{Lottery}
 use Rattle.match_rules.specs.declared.answer.Answer.TheVariants as answer
 use Rattle.publication.specs.declared.certificate.Certificate.{Certificate}
-use Rattle.venue_rules.specs.Venues.{VenueValue}
 use Rattle.desk_keeper.specs.declared.words.Command.TheVariants.{Edit, Submit, Publish, Draw}
-use Rattle.desk_history.specs.declared.entries.Entry.{Entry}
 use Rattle.desk_history.specs.declared.entries.Entry.TheVariants.{Accepted, Took, Ended, Released}
 use Rattle.desk_history.specs.declared.jobs.Job.{Job}
 use Rattle.desk_history.specs.declared.jobs.Outcome.{Outcome}

@@ -1,5 +1,5 @@
 -- As many rows as commands.
-use Rattle.std.proofs.Common.{◌≡◌, ◌+◌, ◌∷◌, ◌++◌, ℕ, List, [], length, length-append, ap, refl, ◌∙◌}
+use Rattle.std.proofs.Common.{◌≡◌, ◌+◌, ◌∷◌, [], length, length-append, ap, refl, ◌∙◌}
 use Rattle.desk_history.specs.declared.entries.Entry.TheVariants.{Accepted, Took, Ended, Released}
 use Rattle.desk_history.specs.Histories.{History, commands}
 use Rattle.desk_history.specs.Rows.{named, row_behind, rows}

@@ -1,5 +1,5 @@
 -- The table of benches after a write.
-use Rattle.std.proofs.Common.{zero, suc, ◌≡◌, ◌<◌, ◌≤◌, ◌+◌, ◌∷◌, [], arith, ℕ, List, Option, None, Some, IsSome, length, cond, eqb, get_or, set, get_or-set_same, get_or-set_other, eq-eqb, ne_eqb, ⊎_elim, ap, sym, refl, ◌∙◌, subst}
+use Rattle.std.proofs.Common.{zero, suc, ◌≡◌, ◌<◌, ◌≤◌, ◌+◌, ◌∷◌, [], arith, ℕ, List, Option, None, Some, IsSome, length, cond, eqb, get_or, set, get_or-set_same, get_or-set_other, eq-eqb, ne_eqb, ⊎_elim, ap, sym, refl, ◌∙◌}
 use Rattle.std.proofs.lemmas.Bool.{cases_eq, false≢true}
 use Rattle.desk_history.specs.Courses.{full}
 use Rattle.desk_history.specs.Histories.{History, held}

@@ -1,5 +1,5 @@
 -- A small conference and what its chair `ann` asks, over which the definitions are computed.
-use Rattle.std.specs.Prelude.{ℕ, List, [], ◌∷◌, ◌++◌, codes, Option, None, Result, pos}
+use Rattle.std.specs.Prelude.{ℕ, List, [], ◌∷◌, ◌++◌, codes, None, Result, pos}
 use Rattle.match_rules.specs.Rules.{RulesValue, rules_value}
 use Rattle.match_rules.specs.declared.answer.Answer.TheVariants.{Lottery}
 use Rattle.match_rules.specs.declared.answer.Level.TheVariants.{Unasked}

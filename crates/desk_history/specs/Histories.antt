@@ -1,5 +1,5 @@
 -- Histories: what a desk has done, the newest entry first; and what follows from them.
-use Rattle.std.specs.Prelude.{ℕ, ◌+◌, ◌-◌, ◌==◌, ◌&&◌, nat_lt, if◌then◌else◌, Bool, true, false, List, [], ◌∷◌, ◌++◌, map, length, bytes_eq, slice_get, slice_set, Option, Some, None, Ok, Err}
+use Rattle.std.specs.Prelude.{ℕ, ◌+◌, ◌-◌, ◌==◌, ◌&&◌, nat_lt, if◌then◌else◌, List, [], ◌∷◌, ◌++◌, map, length, bytes_eq, slice_get, slice_set, Option, Some, None, Ok, Err}
 use Rattle.match_rules.specs.declared.answer.Mode.{Mode}
 use Rattle.match_rules.specs.declared.rules.TheConstants.{RULES_TICKETS}
 use Rattle.publication.specs.Draws.{ticket_of}
@@ -24,7 +24,7 @@ use Rattle.desk_history.specs.declared.entries.Entry.TheVariants.{Accepted, Took
 use Rattle.desk_history.specs.declared.jobs.Job.{Job}
 use Rattle.desk_history.specs.declared.jobs.Publication.{Publication}
 use Rattle.desk_history.specs.declared.jobs.Outcome.{Outcome}
-use Rattle.desk_history.specs.declared.jobs.Outcome.TheVariants.{Waiting, Taken, Certified, Infeasible, Stale, OutOfMemory}
+use Rattle.desk_history.specs.declared.jobs.Outcome.TheVariants.{Waiting, Taken}
 use Rattle.desk_history.specs.declared.requests.Work.{Work}
 use Rattle.desk_history.specs.declared.requests.Work.TheVariants as work
 use Rattle.desk_history.specs.Outcomes.{Event, Takes, Ends, Releases, Edits, Reads, after}

@@ -1,5 +1,5 @@
 -- What is shown of a history.
-use Rattle.std.specs.Prelude.{ℕ, ◌==◌, nat_le, if◌then◌else◌, Bool, true, false, List, [], map, slice_get, Option, Some, None, Result, Ok, Err}
+use Rattle.std.specs.Prelude.{ℕ, nat_le, if◌then◌else◌, List, [], map, slice_get, Option, Some, None, Result, Ok, Err}
 use Rattle.match_rules.specs.Drawing.{piece_of}
 use Rattle.match_rules.specs.Rules.{RulesValue, paper_at, pair_at, reviewer_at, rules_value}
 use Rattle.match_rules.specs.declared.answer.Answer.{Answer}

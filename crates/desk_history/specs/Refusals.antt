@@ -10,7 +10,6 @@ use Rattle.venue_rules.specs.VenueRules.{rules_of}
 use Rattle.venue_rules.specs.declared.fault.LimitFault.{LimitFault}
 use Rattle.desk_keeper.specs.declared.words.Command.{Command}
 use Rattle.desk_keeper.specs.declared.words.Command.TheVariants.{Edit, Submit, Publish, Draw}
-use Rattle.desk_keeper.specs.declared.words.EditWords.{EditWords}
 use Rattle.desk_keeper.specs.declared.words.Named.{Named}
 use Rattle.desk_history.specs.declared.jobs.Job.{Job}
 use Rattle.desk_history.specs.declared.jobs.Publication.{Publication}

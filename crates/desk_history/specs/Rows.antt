@@ -6,8 +6,7 @@ use Rattle.desk_keeper.specs.Rows.{row_of}
 use Rattle.desk_keeper.specs.declared.words.Command.{Command}
 use Rattle.desk_keeper.specs.declared.words.Command.TheVariants.{Edit, Submit, Publish, Draw}
 use Rattle.desk_keeper.specs.declared.words.Named.{Named}
-use Rattle.desk_history.specs.declared.entries.Entry.{Entry}
-use Rattle.desk_history.specs.declared.entries.Entry.TheVariants.{Accepted, Took, Ended, Released}
+use Rattle.desk_history.specs.declared.entries.Entry.TheVariants.{Accepted}
 use Rattle.desk_history.specs.declared.jobs.Job.{Job}
 use Rattle.desk_history.specs.Histories.{History, evidence, job_of}
 

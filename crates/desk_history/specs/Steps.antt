@@ -1,5 +1,5 @@
 -- What each request does to a history: the reply, and at most one entry more.
-use Rattle.std.specs.Prelude.{◌≡◌, ℕ, ◌+◌, ◌<◌, ◌==◌, if◌then◌else◌, Bool, true, false, List, [], ◌∷◌, length, bytes_eq, Option, Some, None, Result, Ok, Err, ⊤}
+use Rattle.std.specs.Prelude.{◌≡◌, ℕ, ◌+◌, ◌<◌, ◌==◌, if◌then◌else◌, Bool, true, false, List, [], ◌∷◌, length, bytes_eq, Option, Some, None, Ok, Err, ⊤}
 use Rattle.std.specs.List.{list_any}
 use Rattle.match_rules.specs.declared.answer.Mode.{Mode}
 use Rattle.match_rules.specs.declared.rules.TheConstants.{RULES_TICKETS}

@@ -1,4 +1,4 @@
-use Rattle.std.proofs.Common.{◌≡◌, ◌+◌, None, set, arith, length, subst, sym, rules}
+use Rattle.std.proofs.Common.{◌≡◌, ◌+◌, None, set, arith, subst, sym, rules}
 use Rattle.std.proofs.lemmas.List.{length-reverse}
 use Rattle.desk_history.specs.Courses.{full, history_of}
 use Rattle.desk_history.specs.Histories.{History}

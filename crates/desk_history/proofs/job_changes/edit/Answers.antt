@@ -1,4 +1,4 @@
-use Rattle.std.proofs.Common.{◌<◌, length, refl, arith, rules, get_or}
+use Rattle.std.proofs.Common.{◌<◌, length, rules, get_or}
 use Rattle.std.proofs.lemmas.List.{get_or_default}
 use Rattle.std.proofs.lemmas.List.Edits.{map_over_more}
 use Rattle.match_rules.specs.declared.answer.Mode.TheVariants.{Whole}

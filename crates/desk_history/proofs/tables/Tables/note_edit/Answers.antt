@@ -1,4 +1,4 @@
-use Rattle.std.proofs.Common.{◌≡◌, ◌+◌, ap, ◌∙◌, sym, arith, rules}
+use Rattle.std.proofs.Common.{◌≡◌, ◌+◌, ap, ◌∙◌, sym, rules}
 use Rattle.venue_rules.specs.VenueRules.{rules_of}
 use Rattle.desk_history.specs.declared.tables.Tables.{Tables}
 use Rattle.desk_history.specs.Histories.{edits, jobs, made_or, present}

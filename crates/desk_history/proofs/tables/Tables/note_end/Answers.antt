@@ -1,6 +1,6 @@
-use Rattle.std.proofs.Common.{List, ℕ, Option, get_or, ◌<◌, None, ap, ◌∙◌, subst, length, length-set, sym, arith, rules}
+use Rattle.std.proofs.Common.{List, ℕ, Option, get_or, ◌<◌, None, ap, ◌∙◌, subst, length-set, sym}
 use Rattle.desk_history.specs.declared.jobs.Job.{Job}
-use Rattle.desk_history.specs.Histories.{History, ended, held, jobs, with_held}
+use Rattle.desk_history.specs.Histories.{ended, held, jobs, with_held}
 use Rattle.desk_history.proofs.TableLaws.{bench_put}
 use Rattle.desk_history.proofs.tables.Tables.note_end.Goals as goal
 

@@ -1,7 +1,7 @@
-use Rattle.std.proofs.Common.{List, ℕ, Option, get_or, ◌<◌, None, ap, ◌∙◌, subst, length, length-set, sym, arith, rules}
+use Rattle.std.proofs.Common.{List, ℕ, Option, get_or, ◌<◌, None, ap, ◌∙◌, subst, length-set, sym}
 use Rattle.desk_history.specs.declared.jobs.Job.{Job}
 use Rattle.desk_history.specs.Outcomes.{Releases}
-use Rattle.desk_history.specs.Histories.{History, changed, held, jobs, with_held}
+use Rattle.desk_history.specs.Histories.{changed, jobs, with_held}
 use Rattle.desk_history.proofs.TableLaws.{bench_put}
 use Rattle.desk_history.proofs.tables.Tables.note_release.Goals as goal
 

@@ -1,4 +1,4 @@
-use Rattle.std.proofs.Common.{List, ◌<◌, Some, ap, ◌∙◌, subst, length, length-set, sym, arith, rules}
+use Rattle.std.proofs.Common.{List, ◌<◌, Some, ap, ◌∙◌, subst, length-set, sym}
 use Rattle.desk_history.specs.declared.jobs.Job.{Job}
 use Rattle.desk_history.specs.Outcomes.{Takes}
 use Rattle.desk_history.specs.Histories.{changed, with_nth}
