@@ -1,5 +1,5 @@
 -- What a command needs before it is kept, and what keeping it does.
-use Rattle.std.specs.Prelude.{◌≡◌, ℕ, ◌+◌, ◌≤◌, ◌<◌, List, [], ◌∷◌, ◌++◌, length, Option, None, Result, Ok, Err, Vec, is_ok, if◌then◌else◌, vec_capacity, vec_len, ⊤}
+use Rattle.std.specs.Prelude.{◌≡◌, ℕ, ◌+◌, ◌≤◌, ◌<◌, List, [], ◌∷◌, ◌++◌, length, None, Result, Ok, Err, Vec, is_ok, if◌then◌else◌, vec_capacity, vec_len, ⊤}
 use Rattle.std.specs.declared.alloc.Global.{Global}
 use Rattle.desk_keeper.specs.declared.words.Named.{Named}
 use Rattle.desk_history.specs.declared.entries.Entry.{Entry}
@@ -7,7 +7,6 @@ use Rattle.desk_history.specs.declared.refusals.Refusal.{Refusal}
 use Rattle.desk_history.specs.declared.refusals.Refusal.TheVariants.{KeeperFault, Memory}
 use Rattle.desk_history.specs.declared.refusals.TheConstants.{MOST_COMMANDS, MOST_ROW_BYTES}
 use Rattle.desk_history.specs.declared.tables.Tables.{Tables}
-use Rattle.desk_history.specs.Courses.{AreKept, full, history_of}
 use Rattle.desk_history.specs.Histories.{History}
 use Rattle.desk_history.specs.Refusals.{IsDue, full_refusal, refusal_of}
 use Rattle.desk_history.specs.Rows.{row_behind}

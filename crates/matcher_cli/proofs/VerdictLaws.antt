@@ -1,12 +1,11 @@
 -- What is judged is what is checked, and each text has one answer.
-use Rattle.std.proofs.Common.{◌≡◌, ◌⊎◌, ℕ, List, Option, inl, inr, refl, sym, ap, subst}
+use Rattle.std.proofs.Common.{◌≡◌, ℕ, List, Option, inl, inr, refl, sym, ap, subst}
 use Rattle.match_rules.specs.declared.answer.Answer.{Answer}
 use Rattle.match_rules.specs.Rules.{RulesValue}
 use Rattle.publication.specs.Checks.{Holds}
 use Rattle.matcher_cli.specs.declared.status.Status.{Status}
 use Rattle.matcher_cli.specs.declared.status.Status.TheVariants.{Done, Broken, Infeasible, Usage, ReadFault, WriteFault, Refused, Memory}
-use Rattle.matcher_cli.specs.Verdicts.{IsTextOf, Judges, Checks, IsFault, IsExact, IsNoText, IsFaultOf, Written, FrontWritten}
-use Rattle.matcher_cli.specs.Lines.{fault_line}
+use Rattle.matcher_cli.specs.Verdicts.{IsTextOf, Judges, Checks, IsFault, IsExact, IsFaultOf}
 use Rattle.text_lines.specs.declared.fault.TextFault.{TextFault}
 
 -- what is judged for a text is what is checked
@@ -69,20 +68,3 @@ judges_exact ReadFault bytes rules answer old new text right only judged = absur
 judges_exact WriteFault bytes rules answer old new text right only judged = fault_exact bytes WriteFault tt
 judges_exact Refused bytes rules answer old new text right only judged = absurd judged
 judges_exact Memory bytes rules answer old new text right only judged = fault_exact bytes Memory tt
-
--- ---- texts that are refused
-
--- a text of another kind is refused, or writing failed
-pub refused_checks : (status : Status) (fault : TextFault) (bytes old : List ℕ) (new : Option (List ℕ)) → (status ≡ Refused) ⊎ (status ≡ WriteFault) → IsNoText bytes → IsFaultOf fault bytes
-    → (status ≡ Refused → Written old new (fault_line fault)) → (status ≡ WriteFault → FrontWritten old new (fault_line fault)) → Checks status bytes old new
-refused_checks status fault bytes old new (inl is) none wrong written front = rw is (fault, none, wrong, written is)
-refused_checks status fault bytes old new (inr is) none wrong written front = rw is (inr (fault, none, wrong, front is))
-
-pub refused_exact : (status : Status) (bytes : List ℕ) → (status ≡ Refused) ⊎ (status ≡ WriteFault) → IsNoText bytes → IsExact bytes status
-refused_exact status bytes (inl is) none = record {
-  valid = λ r a text holds. absurd (none r a text);
-  invalid = λ r a text broken. absurd (none r a text);
-  no_text = λ other. inl is;
-  fault = λ wrong found. inl is;
-}
-refused_exact status bytes (inr is) none = fault_exact bytes status (rw is tt)

@@ -1,4 +1,4 @@
-use Rattle.matcher_cli.proofs.VerdictLaws.{judges_checks, judges_exact, parts_same, refused_checks, refused_exact}
+use Rattle.matcher_cli.proofs.VerdictLaws.{judges_checks, judges_exact, parts_same}
 use Rattle.matcher_cli.proofs.matching.check_text.Goals as goal
 
 pub returns-in-Ok-clause-checks : goal.returns-in-Ok-clause-checks
