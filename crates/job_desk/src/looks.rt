@@ -1,0 +1,31 @@
+// What a desk tells of its history.
+
+ghost use Rattle.std.specs.Prelude.{◌≡◌, length};
+ghost use Rattle.desk_history.specs.Histories.{History, edits, outcome, publications};
+ghost use Rattle.desk_history.specs.Tables.{AreTables};
+
+use desk_history::{Outcome, Tables, nth};
+
+/// The number of the present edition.
+pub fn now(tables: &Tables) -> u64
+    ensures { (H : History) → AreTables H tables.now → result ≡ edits H }
+{
+    tables.edits
+}
+
+/// What a job came to; `None` where there is no such job.
+pub fn outcome_of(tables: &Tables, job: u64) -> Option<Outcome>
+    ensures { (H : History) → AreTables H tables.now → result ≡ outcome H job }
+{
+    match nth(tables.jobs.as_slice(), job) {
+        Some(job) => Some(job.outcome),
+        None => None,
+    }
+}
+
+/// The number of publications.
+pub fn publications(tables: &Tables) -> u64
+    ensures { (H : History) → AreTables H tables.now → result ≡ length (publications H) }
+{
+    tables.publications.len() as u64
+}
