@@ -1,9 +1,8 @@
 -- What the entry at a place of a history brought is what the one there in the order of time brought.
-use Rattle.std.proofs.Common.{◌≡◌, ◌<◌, ◌≤◌, ◌+◌, ◌∷◌, ◌++◌, [], ◌∙◌, ℕ, List, Option, Some, None, true, false, cond, eqb, eq-eqb, ne_eqb, ⊎_elim, ap, arith, length, length-append, reverse, refl, sym, subst, zero, suc}
+use Rattle.std.proofs.Common.{◌≡◌, ◌∷◌, ◌++◌, [], ◌∙◌, ℕ, List, Some, cond, eq-eqb, ne_eqb, ⊎_elim, ap, length, reverse, refl, sym, zero, suc}
 use Rattle.std.proofs.lemmas.Bool.{cases_eq}
 use Rattle.std.proofs.lemmas.List.{length-reverse, reverse-append, reverse-reverse}
 use Rattle.std.specs.List.{slice_get}
-use Rattle.publication.specs.declared.certificate.Certificate.{Certificate}
 use Rattle.desk_history.specs.declared.entries.Entry.{Entry}
 use Rattle.desk_history.specs.Histories.{History, brought_at, brought_by}
 use Rattle.job_desk.specs.Drawing.{brought_from}

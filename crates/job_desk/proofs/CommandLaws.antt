@@ -1,5 +1,5 @@
 -- Whether two commands are the same in what they say is whether they are equal.
-use Rattle.std.proofs.Common.{◌≡◌, ◌&&◌, ◌==◌, Bool, true, false, List, ℕ, ap, refl, subst, bytes_eq, ◌∙◌}
+use Rattle.std.proofs.Common.{◌≡◌, ◌&&◌, ◌==◌, Bool, true, List, ℕ, ap, refl, subst, bytes_eq, ◌∙◌}
 use Rattle.std.specs.Bool.{Decides}
 use Rattle.std.proofs.lemmas.Bool.{false≢true}
 use Rattle.std.proofs.lemmas.Bool.Decides.{Decides-and, Decides-eqb}
@@ -17,7 +17,7 @@ use Rattle.desk_history.specs.SameCommands.{is_same_command, is_same_edit, is_sa
 
 -- a test that holds of each value with itself, and only of equal ones, decides whether they are equal
 decides : {A : Type 0} (same : A → A → Bool) → ((a : A) → same a a ≡ true) → ((a b : A) → same a b ≡ true → a ≡ b) → (a b : A) → Decides (same a b) (a ≡ b)
-decides same self equal a b = (equal a b , λ e. subst (λ x. same a x ≡ true) e (self a))
+decides same self equal a b = (equal a b, λ e. subst (λ x. same a x ≡ true) e (self a))
 
 eq_self : (n : ℕ) → (n == n) ≡ true
 eq_self n = (Decides-eqb n n).1 refl
@@ -120,7 +120,7 @@ edit_equal a b e =
     ap (λ (t : TableWords). made t a.how a.body) parts.0.0 ∙ ap (λ (h : HowWords). made b.table h a.body) parts.0.1 ∙ ap (made b.table b.how) parts.1
 
 edit_self : (a : EditWords) → is_same_edit a a ≡ true
-edit_self a = (edit_parts a a).1 ((refl , refl) , refl)
+edit_self a = (edit_parts a a).1 ((refl, refl), refl)
 
 numbers : (n m : ℕ) {A : Type 0} (same : A → A → Bool) → ((a : A) → same a a ≡ true) → ((a b : A) → same a b ≡ true → a ≡ b) → (a b : A) → Decides (n == m && same a b) ((n ≡ m) × (a ≡ b))
 numbers n m same self equal a b = Decides-and (n == m) (same a b) (Decides-eqb n m) (decides same self equal a b)
@@ -129,10 +129,10 @@ text_equal : (a b : List ℕ) → bytes_eq a b ≡ true → a ≡ b
 text_equal a b e = (bytes_eq-Decides a b).0 e
 
 command_self : (a : Command) → is_same_command a a ≡ true
-command_self (Edit base edit) = (numbers base base is_same_edit edit_self edit_equal edit edit).1 (refl , refl)
-command_self (Submit base mode) = (numbers base base is_same_mode mode_self mode_equal mode mode).1 (refl , refl)
+command_self (Edit base edit) = (numbers base base is_same_edit edit_self edit_equal edit edit).1 (refl, refl)
+command_self (Submit base mode) = (numbers base base is_same_mode mode_self mode_equal mode mode).1 (refl, refl)
 command_self (Publish job) = eq_self job
-command_self (Draw publication text) = (numbers publication publication bytes_eq bytes_self text_equal text text).1 (refl , refl)
+command_self (Draw publication text) = (numbers publication publication bytes_eq bytes_self text_equal text text).1 (refl, refl)
 
 command_equal : (a b : Command) → is_same_command a b ≡ true → a ≡ b
 command_equal (Edit base edit) (Edit other_base other_edit) e = let parts = (numbers base other_base is_same_edit edit_self edit_equal edit other_edit).0 e in ap (λ n. Edit n edit) parts.0 ∙ ap (Edit other_base) parts.1

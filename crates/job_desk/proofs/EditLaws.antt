@@ -1,5 +1,5 @@
 -- No more editions than commands.
-use Rattle.std.proofs.Common.{◌≡◌, ◌≤◌, ◌+◌, ◌∷◌, [], arith}
+use Rattle.std.proofs.Common.{◌≤◌, ◌∷◌, [], arith}
 use Rattle.desk_keeper.specs.declared.words.Command.TheVariants.{Edit, Submit, Publish, Draw}
 use Rattle.desk_history.specs.declared.entries.Entry.TheVariants.{Accepted, Took, Ended, Released}
 use Rattle.desk_history.specs.Histories.{History, commands, edits}

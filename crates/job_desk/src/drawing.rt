@@ -124,11 +124,7 @@ fn drawn_at<'a>(
 
 /// What the publication of a number has drawn; `None` where there is no such publication, and before its draw. Takes no
 /// memory.
-pub fn drawn_of<'a>(
-    entries: &'a Vec<Entry>,
-    tables: &Tables,
-    publication: u64,
-) -> Option<Drawn<'a>>
+pub fn drawn_of<'a>(entries: &'a Vec<Entry>, tables: &Tables, publication: u64) -> Option<Drawn<'a>>
     requires { AreTables (history_of entries.now) tables.now }
     ensures { option_map value_of result ≡ drawn_of (history_of entries.now) (nth_of (publications (history_of entries.now)) publication) }
 {

@@ -120,7 +120,14 @@ pub fn draw<P: Keeper>(
         Ok(()) => {}
         Err(refusal) => return Err(refusal),
     }
-    note_draw(entries, tables, named, publication, ticket, row.len() as u64);
+    note_draw(
+        entries,
+        tables,
+        named,
+        publication,
+        ticket,
+        row.len() as u64,
+    );
     Ok(Answered::Drawn {
         publication,
         ticket,

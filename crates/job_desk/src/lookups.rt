@@ -14,7 +14,9 @@ use desk_keeper::{Command, Name, Named};
 #[derive(Clone, Copy)]
 pub enum Repeat {
     /// With the same command, which has this reply.
-    Same { reply: Done },
+    Same {
+        reply: Done,
+    },
     /// With another command than the accepted one.
     Other {
         /// The place of that one among the accepted commands, from 0.

@@ -57,11 +57,7 @@ pub fn row_of_draw(
 }
 
 /// The row of a command without a lottery that isn't refused itself; or there is no room for it.
-pub fn row_of_accepted(
-    alloc: Global,
-    tables: &Tables,
-    named: &Named,
-) -> Result<Vec<u8>, Refusal>
+pub fn row_of_accepted(alloc: Global, tables: &Tables, named: &Named) -> Result<Vec<u8>, Refusal>
     requires plain { (H : History) → lottery_of H named.now.command None ≡ [] }
     requires may { MayKeep named.now [] }
     requires bytes { tables.now.bytes ≤ MOST_ROW_BYTES }

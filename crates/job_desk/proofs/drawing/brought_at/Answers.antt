@@ -1,4 +1,4 @@
-use Rattle.std.proofs.Common.{◌≡◌, ◌∙◌, ap, sym}
+use Rattle.std.proofs.Common.{◌∙◌, ap, sym}
 use Rattle.desk_history.specs.Courses.{history_of}
 use Rattle.desk_history.specs.Histories.{brought_at}
 use Rattle.job_desk.proofs.BroughtLaws.{brought_here}

@@ -1,4 +1,4 @@
-use Rattle.std.proofs.Common.{◌≡◌, ◌∙◌, List, Result, ap, length, refl, reverse, subst, sym}
+use Rattle.std.proofs.Common.{◌∙◌, List, Result, ap, length, refl, reverse, subst, sym}
 use Rattle.desk_keeper.specs.Keepers.{Tells}
 use Rattle.desk_history.specs.declared.entries.Entry.{Entry}
 use Rattle.desk_history.specs.declared.refusals.Refusal.{Refusal}
@@ -24,7 +24,7 @@ returns-in-Err-append-clause-told g c told =
     kept told ∙ sym (ap (λ (items : List Entry). rows (reverse items)) c.prepare.ensures.same)
 
 pub prepare-requires-clause-command : goal.prepare-requires-clause-command
-prepare-requires-clause-command g c = (c.args.text , refl)
+prepare-requires-clause-command g c = (c.args.text, refl)
 
 pub note_draw-requires-clause-command : goal.note_draw-requires-clause-command
-note_draw-requires-clause-command g c = record { text = c.args.text; is = refl; drawn = c.ticket_by-ticket.ensures; }
+note_draw-requires-clause-command g c = record { text = c.args.text; is = refl; drawn = c.ticket_by-ticket.ensures }

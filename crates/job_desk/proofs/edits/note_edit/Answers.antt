@@ -4,7 +4,7 @@ use Rattle.desk_history.specs.declared.entries.Done.{Done}
 use Rattle.desk_history.specs.declared.entries.Done.TheVariants as done
 use Rattle.desk_history.specs.declared.entries.Entry.TheVariants.{Accepted}
 use Rattle.desk_history.specs.Courses.{full, history_of}
-use Rattle.desk_history.specs.Histories.{History, edits}
+use Rattle.desk_history.specs.Histories.{History}
 use Rattle.desk_history.specs.Rows.{named, row_behind}
 use Rattle.desk_history.specs.Steps.{done_of}
 use Rattle.desk_history.specs.Tables.{AreTables}
