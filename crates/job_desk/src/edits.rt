@@ -1,6 +1,6 @@
 // Edits: new editions.
 
-ghost use Rattle.std.specs.Prelude.{◌≡◌, ◌≤◌, ◌<◌, ◌+◌, ◌∷◌, [], ℕ, IfOk, IsErrOf, None, OnOk, length, true, vec_capacity, vec_len};
+ghost use Rattle.std.specs.Prelude.{◌≡◌, ◌≤◌, ◌<◌, ◌+◌, ◌∷◌, [], IfOk, IsErrOf, None, OnOk, length, true, vec_capacity, vec_len};
 ghost use Rattle.edge_io.specs.Counts.{Rose};
 ghost use Rattle.desk_keeper.specs.Keepers.{Tells};
 ghost use Rattle.desk_keeper.specs.Names.{is_chair_name};

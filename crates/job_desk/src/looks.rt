@@ -1,10 +1,11 @@
 // What a desk tells of its history.
 
 ghost use Rattle.std.specs.Prelude.{◌≡◌, length};
-ghost use Rattle.desk_history.specs.Histories.{History, edits, outcome, publications};
+ghost use Rattle.desk_history.specs.Histories.{History, edits, job_of, outcome, publications};
+ghost use Rattle.desk_history.specs.Looks.{job_look};
 ghost use Rattle.desk_history.specs.Tables.{AreTables};
 
-use desk_history::{Outcome, Tables, nth};
+use desk_history::{Answered, Outcome, Refusal, Tables, nth};
 
 /// The number of the present edition.
 pub fn now(tables: &Tables) -> u64
@@ -20,6 +21,21 @@ pub fn outcome_of(tables: &Tables, job: u64) -> Option<Outcome>
     match nth(tables.jobs.as_slice(), job) {
         Some(job) => Some(job.outcome),
         None => None,
+    }
+}
+
+/// A job as a chair sees it, or the refusal where there is none.
+pub fn job_look(tables: &Tables, number: u64) -> Result<Answered, Refusal>
+    ensures { (H : History) → AreTables H tables.now → result ≡ (job_look number (job_of H number)).reply }
+{
+    match nth(tables.jobs.as_slice(), number) {
+        Some(job) => Ok(Answered::Job {
+            job: number,
+            edition: job.edition,
+            mode: job.mode,
+            outcome: job.outcome,
+        }),
+        None => Err(Refusal::UnknownJob),
     }
 }
 
