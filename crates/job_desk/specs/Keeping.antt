@@ -1,13 +1,20 @@
 -- What a command needs before it is kept, and what keeping it does.
 use Rattle.std.specs.Prelude.{◌≡◌, ℕ, ◌+◌, ◌≤◌, ◌<◌, List, [], ◌∷◌, ◌++◌, length, None, Result, Ok, Err, Vec, is_ok, if◌then◌else◌, vec_capacity, vec_len, ⊤}
 use Rattle.std.specs.declared.alloc.Global.{Global}
+use Rattle.match_rules.specs.declared.rules.TheConstants.{RULES_TICKETS}
+use Rattle.publication.specs.Draws.{ticket_of}
+use Rattle.venue_rules.specs.VenueRules.{rules_of}
+use Rattle.editions.specs.declared.venue.Edited.{Edited}
+use Rattle.desk_keeper.specs.declared.words.Command.{Command}
+use Rattle.desk_keeper.specs.declared.words.Command.TheVariants.{Draw, Edit}
+use Rattle.desk_keeper.specs.declared.words.EditWords.{EditWords}
 use Rattle.desk_keeper.specs.declared.words.Named.{Named}
 use Rattle.desk_history.specs.declared.entries.Entry.{Entry}
 use Rattle.desk_history.specs.declared.refusals.Refusal.{Refusal}
 use Rattle.desk_history.specs.declared.refusals.Refusal.TheVariants.{KeeperFault, Memory}
 use Rattle.desk_history.specs.declared.refusals.TheConstants.{MOST_COMMANDS, MOST_ROW_BYTES}
 use Rattle.desk_history.specs.declared.tables.Tables.{Tables}
-use Rattle.desk_history.specs.Histories.{History}
+use Rattle.desk_history.specs.Histories.{History, present, put}
 use Rattle.desk_history.specs.Refusals.{IsDue, full_refusal, refusal_of}
 use Rattle.desk_history.specs.Rows.{row_behind}
 
@@ -39,3 +46,17 @@ abbrev pub IsKeeping : Refusal → Type 0
 IsKeeping Memory = ⊤
 IsKeeping KeeperFault = ⊤
 IsKeeping other = ⊥
+
+-- the command draws this ticket of a publication
+pub record IsDrawOf (command : Command) (publication ticket : ℕ) : Type 0 where
+  pub text : List ℕ
+  pub is : command ≡ Draw publication text
+  pub drawn : ticket ≡ ticket_of text RULES_TICKETS
+
+-- the command is an edit that makes this edition behind a history
+pub record IsEditTo (H : History) (command : Command) (edited : Edited) : Type 0 where
+  pub base : ℕ
+  pub edit : EditWords
+  pub is : command ≡ Edit base edit
+  pub venue : put (present H) edit ≡ Ok edited.venue
+  pub rules : rules_of edited.venue ≡ Ok edited.rules

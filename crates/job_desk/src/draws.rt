@@ -10,55 +10,54 @@ ghost use Rattle.desk_history.specs.declared.refusals.TheConstants.{MOST_COMMAND
 ghost use Rattle.desk_history.specs.Courses.{AreKept, Does, history_of};
 ghost use Rattle.desk_history.specs.Rows.{named, row_behind, rows};
 ghost use Rattle.desk_history.specs.Steps.{accepted, new_step};
-ghost use Rattle.job_desk.specs.Keeping.{AnswersCommand, HasRoom};
+ghost use Rattle.job_desk.specs.Keeping.{AnswersCommand, HasRoom, IsDrawOf};
 
+use crate::keeping::{append, note_accepted};
 use crate::rows_of_commands::row_of_draw;
-use desk_history::{Answered, Done, Entry, Refusal, Tables, push, reserve};
-use desk_keeper::{Bytes, Command, Name, Named};
+use desk_history::{Answered, Done, Entry, Refusal, Tables, reserve};
+use desk_keeper::{Bytes, Command, Keeper, Name, Named};
 use match_rules::RULES_TICKETS;
 use publication::ticket_of;
 use std::alloc::Global;
 
-/// A draw of this ticket is accepted, whose row has so many bytes; there has to be room for its entry and for the ends of all
-/// benches.
-pub fn note_draw(
+// The ticket that a text draws.
+fn ticket_by(text: &Bytes) -> u32
+    ensures { result ≡ ticket_of text.now RULES_TICKETS }
+{
+    ticket_of(text.as_slice(), RULES_TICKETS)
+}
+
+// A draw of this ticket is accepted, whose row has so many bytes.
+fn note_draw(
     entries: &mut Vec<Entry>,
     tables: &mut Tables,
-    caller: Name,
-    number: u64,
+    named: Named,
     publication: u64,
-    text: Bytes,
     ticket: u32,
     more: u64,
 )
-    requires ticket { ticket ≡ ticket_of text RULES_TICKETS }
+    requires command { IsDrawOf named.command publication ticket }
     requires kept { AreKept entries.old tables.old }
     requires room { vec_len entries.old + 17 ≤ vec_capacity entries.old }
     requires commands { tables.old.commands < MOST_COMMANDS }
     requires bytes { tables.old.bytes + more ≤ MOST_ROW_BYTES }
-    requires more { more ≡ length (row_behind (history_of entries.old) (named caller number (Draw publication text)) None) }
-    ensures entry { history_of entries.new ≡ accepted (history_of entries.old) (named caller number (Draw publication text)) None ∷ history_of entries.old }
+    requires more { more ≡ length (row_behind (history_of entries.old) named None) }
+    ensures entry { history_of entries.new ≡ accepted (history_of entries.old) named None ∷ history_of entries.old }
     ensures kept { AreKept entries.new tables.new }
 {
-    let reply = Done::Drawn {
-        publication,
-        ticket,
-    };
     tables.note_draw(publication, ticket, more);
-    push(
+    note_accepted(
         entries,
-        Entry::Accepted {
-            caller,
-            number,
-            command: Command::Draw { publication, text },
-            reply,
-            read: None,
+        named,
+        Done::Drawn {
+            publication,
+            ticket,
         },
     );
 }
 
-/// What a draw needs before it is kept: its row, and room. Or why it is refused; the history is then as it was.
-pub fn prepare_draw(
+// What a draw needs before it is kept: its row, and room. Or why it is refused.
+fn prepare(
     alloc: Global,
     entries: &mut Vec<Entry>,
     tables: &Tables,
@@ -83,4 +82,54 @@ pub fn prepare_draw(
         Ok(()) => Ok(row),
         Err(_) => Err(Refusal::Memory),
     }
+}
+
+/// A draw of a chair whose number is new: it is kept as a row behind those of the history, and draws the ticket of its
+/// text; or it is refused, and all is as it was. All memory is taken before the row is kept.
+pub fn draw<P: Keeper>(
+    alloc: Global,
+    keeper: &mut P,
+    entries: &mut Vec<Entry>,
+    tables: &mut Tables,
+    caller: Name,
+    number: u64,
+    publication: u64,
+    text: Bytes,
+) -> Result<Answered, Refusal>
+    requires caller { is_chair_name caller ≡ true }
+    requires kept { AreKept entries.old tables.old }
+    requires bytes { tables.old.bytes ≤ MOST_ROW_BYTES }
+    requires told { Tells (P.rows keeper.old) (rows (history_of entries.old)) }
+    ensures step { Does (new_step (history_of entries.old) (named caller number (Draw publication text))) (history_of entries.old) result (history_of entries.new) }
+    ensures kept { AreKept entries.new tables.new }
+    ensures told { Tells (P.rows keeper.new) (rows (history_of entries.new)) }
+    ensures later { P.faults keeper.old ≤ P.faults keeper.new }
+    ensures fault { IsErrOf result Refusal.KeeperFault → Rose (P.faults keeper.old) (P.faults keeper.new) }
+{
+    let ticket = ticket_by(&text);
+    let named = Named {
+        caller,
+        number,
+        command: Command::Draw { publication, text },
+    };
+    let row = match prepare(alloc, entries, tables, &named, publication) {
+        Ok(row) => row,
+        Err(refusal) => return Err(refusal),
+    };
+    match append(alloc, keeper, tables.commands, row.as_slice()) {
+        Ok(()) => {}
+        Err(refusal) => return Err(refusal),
+    }
+    note_draw(
+        entries,
+        tables,
+        named,
+        publication,
+        ticket,
+        row.len() as u64,
+    );
+    Ok(Answered::Drawn {
+        publication,
+        ticket,
+    })
 }

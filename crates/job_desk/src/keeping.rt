@@ -1,13 +1,15 @@
 // Rows of commands, and their keeping.
 
-ghost use Rattle.std.specs.Prelude.{◌≡◌, ◌≤◌, ℕ, List, IfErr, IfOk, IsErrOf};
+ghost use Rattle.std.specs.Prelude.{◌≡◌, ◌≤◌, ◌<◌, ◌+◌, ◌∷◌, ℕ, List, IfErr, IfOk, IsErrOf, None, vec_capacity, vec_len};
 ghost use Rattle.edge_io.specs.Counts.{Rose};
 ghost use Rattle.desk_keeper.specs.Keepers.{IsNext, Tells};
 ghost use Rattle.desk_keeper.specs.Rows.{MayKeep, row_of};
+ghost use Rattle.desk_history.specs.declared.entries.Entry.TheVariants.{Accepted};
 ghost use Rattle.desk_history.specs.declared.refusals.TheConstants.{MOST_ROW_BYTES};
+ghost use Rattle.desk_history.specs.Courses.{history_of};
 ghost use Rattle.job_desk.specs.Keeping.{AnswersRow, HasRoom, IsKeeping, rows_after};
 
-use desk_history::{Refusal, full_refusal};
+use desk_history::{Done, Entry, Refusal, full_refusal, push};
 use desk_keeper::{KeepFault, Keeper, Named, encode};
 use std::alloc::Global;
 
@@ -52,4 +54,28 @@ pub fn append<P: Keeper>(
         Err(KeepFault::Failed) => Err(Refusal::KeeperFault),
         Err(KeepFault::Memory) => Err(Refusal::Memory),
     }
+}
+
+/// A new command is accepted, with this reply; there has to be room for its entry.
+pub fn note_accepted(entries: &mut Vec<Entry>, named: Named, reply: Done)
+    requires { vec_len entries.old < vec_capacity entries.old }
+    ensures entry { history_of entries.new ≡ Accepted named.caller named.number named.command reply None ∷ history_of entries.old }
+    ensures len { vec_len entries.new ≡ vec_len entries.old + 1 }
+    ensures capacity { vec_capacity entries.old ≤ vec_capacity entries.new }
+{
+    let Named {
+        caller,
+        number,
+        command,
+    } = named;
+    push(
+        entries,
+        Entry::Accepted {
+            caller,
+            number,
+            command,
+            reply,
+            read: None,
+        },
+    );
 }

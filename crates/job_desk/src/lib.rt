@@ -1,12 +1,20 @@
 // A desk over a keeper: commands that are accepted are kept as rows.
 #![tactic(auto)]
 
+mod drawing;
 mod draws;
+mod edits;
 mod keeping;
+mod looks;
+mod lookups;
 mod rows_of_commands;
 mod submits;
 
-pub use draws::{note_draw, prepare_draw};
-pub use keeping::{append, row_for};
-pub use rows_of_commands::{row_of_draw, row_of_submit};
+pub use drawing::{Drawn, drawn_of};
+pub use draws::draw;
+pub use edits::edit;
+pub use keeping::{append, note_accepted, row_for};
+pub use looks::{job_look, now, outcome_of, publications};
+pub use lookups::{Repeat, repeat_of, repeated};
+pub use rows_of_commands::{row_of_accepted, row_of_draw, row_of_submit};
 pub use submits::submit;

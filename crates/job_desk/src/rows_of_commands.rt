@@ -1,10 +1,13 @@
 // The rows of new commands, or why they are refused: the first reason in the order of the table.
 
-ghost use Rattle.std.specs.Prelude.{◌≡◌, ◌≤◌, ℕ, List, IfOk, true};
+ghost use Rattle.std.specs.Prelude.{◌≡◌, ◌≤◌, [], ℕ, List, IfOk, None, true};
 ghost use Rattle.desk_keeper.specs.Names.{is_chair_name};
+ghost use Rattle.desk_keeper.specs.Rows.{MayKeep};
 ghost use Rattle.desk_keeper.specs.declared.words.Command.TheVariants.{Draw, Submit};
 ghost use Rattle.desk_history.specs.declared.refusals.TheConstants.{MOST_ROW_BYTES};
 ghost use Rattle.desk_history.specs.Histories.{History};
+ghost use Rattle.desk_history.specs.Refusals.{own_refusal};
+ghost use Rattle.desk_history.specs.Rows.{lottery_of};
 ghost use Rattle.desk_history.specs.Tables.{AreTables};
 ghost use Rattle.job_desk.specs.Keeping.{AnswersCommand, HasRoom};
 
@@ -51,4 +54,15 @@ pub fn row_of_draw(
         Some(refusal) => Err(refusal),
         None => row_for(alloc, tables.commands, tables.bytes, named, &[]),
     }
+}
+
+/// The row of a command without a lottery that isn't refused itself; or there is no room for it.
+pub fn row_of_accepted(alloc: Global, tables: &Tables, named: &Named) -> Result<Vec<u8>, Refusal>
+    requires plain { (H : History) → lottery_of H named.now.command None ≡ [] }
+    requires may { MayKeep named.now [] }
+    requires bytes { tables.now.bytes ≤ MOST_ROW_BYTES }
+    ensures row { (H : History) → AreTables H tables.now → own_refusal H named.now.command None ≡ None → AnswersCommand H named.now result }
+    ensures room { IfOk result (HasRoom tables.now.commands tables.now.bytes) }
+{
+    row_for(alloc, tables.commands, tables.bytes, named, &[])
 }

@@ -1,4 +1,4 @@
-use Rattle.std.proofs.Common.{◌≡◌, ◌≤◌, None, length, arith, subst, sym}
+use Rattle.std.proofs.Common.{◌≤◌, None, length, arith, subst, sym}
 use Rattle.desk_history.specs.Courses.{full, history_of}
 use Rattle.desk_history.specs.Histories.{History}
 use Rattle.desk_history.specs.Tables.{AreTables}

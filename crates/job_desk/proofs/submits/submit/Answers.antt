@@ -1,4 +1,4 @@
-use Rattle.std.proofs.Common.{◌≡◌, ◌∙◌, List, Result, ap, length, reverse, subst, sym}
+use Rattle.std.proofs.Common.{◌∙◌, List, Result, ap, length, reverse, subst, sym}
 use Rattle.desk_keeper.specs.Keepers.{Tells}
 use Rattle.desk_history.specs.declared.entries.Entry.{Entry}
 use Rattle.desk_history.specs.declared.refusals.Refusal.{Refusal}

@@ -1,0 +1,4 @@
+mod BroughtLaws
+mod CommandLaws
+mod EditLaws
+mod FindLaws
