@@ -14,7 +14,7 @@ pub use drawing::{Drawn, drawn_of};
 pub use draws::draw;
 pub use edits::edit;
 pub use keeping::{append, note_accepted, row_for};
-pub use looks::{job_look, now, outcome_of, publications};
+pub use looks::{job_look, now, outcome_of, publications, rules_now};
 pub use lookups::{Repeat, repeat_of, repeated};
 pub use rows_of_commands::{row_of_accepted, row_of_draw, row_of_submit};
 pub use submits::submit;

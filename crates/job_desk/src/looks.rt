@@ -1,17 +1,27 @@
 // What a desk tells of its history.
 
-ghost use Rattle.std.specs.Prelude.{◌≡◌, length};
+ghost use Rattle.std.specs.Prelude.{◌≡◌, IfOk, length};
 ghost use Rattle.desk_history.specs.Histories.{History, edits, job_of, outcome, publications};
-ghost use Rattle.desk_history.specs.Looks.{job_look};
+ghost use Rattle.desk_history.specs.Looks.{job_look, rules_at};
 ghost use Rattle.desk_history.specs.Tables.{AreTables};
 
-use desk_history::{Answered, Outcome, Refusal, Tables, nth};
+use desk_history::{Answered, Outcome, Refusal, Tables, history_laws, nth};
+use match_rules::Rules;
+use std::alloc::{AllocError, Global};
 
 /// The number of the present edition.
 pub fn now(tables: &Tables) -> u64
     ensures { (H : History) → AreTables H tables.now → result ≡ edits H }
 {
     tables.edits
+}
+
+/// A copy of the rules of the present edition.
+pub fn rules_now(alloc: Global, tables: &Tables) -> Result<Rules, AllocError>
+    ensures { (H : History) → AreTables H tables.now → IfOk result (λ rules. rules ≡ rules_at H (edits H)) }
+{
+    history_laws();
+    tables.rules.copy(alloc)
 }
 
 /// What a job came to; `None` where there is no such job.
