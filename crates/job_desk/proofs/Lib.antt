@@ -1,4 +1,6 @@
 mod BroughtLaws
+mod EvidenceLaws
 mod CommandLaws
 mod EditLaws
 mod FindLaws
+mod LegalLaws

@@ -1,3 +1,4 @@
 pub mod Keeping
 pub mod Lookups
 pub mod Drawing
+pub mod Evidence

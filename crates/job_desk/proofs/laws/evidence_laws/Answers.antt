@@ -1,0 +1,11 @@
+use Rattle.job_desk.proofs.LegalLaws.{certified_best, legal_shown, right_certificate}
+use Rattle.job_desk.proofs.laws.evidence_laws.Goals as goal
+
+pub returns-clause-evidence : goal.returns-clause-evidence
+returns-clause-evidence c chairs H legal = legal_shown chairs H legal
+
+pub returns-clause-readable : goal.returns-clause-readable
+returns-clause-readable c rules mode answer are is spelled = right_certificate rules mode answer are is spelled
+
+pub returns-clause-best : goal.returns-clause-best
+returns-clause-best c rules mode winning are is = certified_best rules mode winning are is
