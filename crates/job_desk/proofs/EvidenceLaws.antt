@@ -25,6 +25,7 @@ use Rattle.desk_history.specs.declared.requests.Work.TheVariants as work
 use Rattle.desk_history.specs.Outcomes.{Event, Takes, Ends, Releases, Edits, Reads, after, answered_outcome, worked_outcome}
 use Rattle.desk_history.specs.Histories.{History, brought_at, brought_by, changed, decides, edition, edits, ended, evidence, held, job_of, jobs, new_job, nth_of, present, published, publications, with_at, with_held, with_nth}
 use Rattle.desk_history.specs.Looks.{rules_at, rules_or_none}
+use Rattle.desk_history.specs.Refusals.{own_refusal}
 use Rattle.desk_history.specs.Steps.{IsRight, IsRightFor, IsWorkFor}
 use Rattle.venue_rules.specs.VenueRules.{rules_of}
 use Rattle.job_desk.specs.Evidence.{AnsweredAreShown, HasEvidence, IfAnswered, IsShown}
@@ -65,7 +66,7 @@ pub all_one : {A : Type 0} (P : A → Type 0) (x : A) → P x → All P (x ∷ [
 all_one P x p zero d lt = p
 all_one P x p (suc k) d lt = absurd (omega arith)
 
-all_then : {A : Type 0} (P Q : A → Type 0) (xs : List A) → ((x : A) → P x → Q x) → All P xs → All Q xs
+pub all_then : {A : Type 0} (P Q : A → Type 0) (xs : List A) → ((x : A) → P x → Q x) → All P xs → All Q xs
 all_then P Q xs step all = λ k d lt. step (get_or xs k d) (all k d lt)
 
 -- What stays behind a further entry
@@ -222,7 +223,7 @@ IsReadRightIn H command None = ⊤
 IsReadRightIn H command (Some read) = IsReadRight H command read
 
 abbrev pub IsFair : History → Entry → Type 0
-IsFair H (Accepted caller number command reply read) = IsReadRightIn H command read
+IsFair H (Accepted caller number command reply read) = (own_refusal H command read ≡ None) × IsReadRightIn H command read
 IsFair H (Took bench job) = ⊤
 IsFair H (Ended bench done) = IfSome (held H bench) (λ number. IsWorkFor H number done)
 IsFair H (Released bench) = ⊤
@@ -283,7 +284,7 @@ sound_behind (Accepted caller number (Submit base mode) reply read) H fair all =
     (all_one (IsSound (Accepted caller number (Submit base mode) reply read ∷ H)) (new_job (edits H) mode) (omega arith, tt))
 sound_behind (Accepted caller number (Publish job) reply read) H fair all =
     all_with_nth (IsSound (Accepted caller number (Publish job) reply read ∷ H)) (jobs H) job (published read (length H) (length (publications H) + 1))
-    (λ x found is. sound_published H caller number job (length (publications H) + 1) reply read x fair found is) all
+    (λ x found is. sound_published H caller number job (length (publications H) + 1) reply read x fair.1 found is) all
 sound_behind (Accepted caller number (Draw publication text) reply read) H fair all = all
 sound_behind (Took bench job) H fair all =
     all_with_nth (IsSound (Took bench job ∷ H)) (jobs H) job (changed Takes) (λ x found is. (is.0, by_take (Took bench job ∷ H) x x.outcome refl is.1)) all

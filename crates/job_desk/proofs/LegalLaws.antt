@@ -48,6 +48,10 @@ use Rattle.job_desk.proofs.EvidenceLaws.{IsFair, IsReadRight, IsReadRightIn, IsS
 
 -- Entries that requests make
 
+pub first_none : {A : Type 0} (a b : Option A) → first_of_two a b ≡ None → (a ≡ None) × (b ≡ None)
+first_none None b e = (refl, e)
+first_none (Some x) b e = none_some x (sym e)
+
 abbrev MakesFair : History → Step → Type 0
 MakesFair H made_step = IfSome made_step.entry (IsFair H)
 
@@ -55,12 +59,12 @@ either : (H : History) (test : Bool) (a b : Step) → MakesFair H a → MakesFai
 either H true a b left right = left
 either H false a b left right = right
 
-refused_fair : (H : History) (due : Option Refusal) (its : Named) → MakesFair H (refused_or due (made (answered_by (done_of H its.command)) (accepted H its None)))
-refused_fair H None its = tt
-refused_fair H (Some why) its = tt
+refused_fair : (H : History) (due : Option Refusal) (its : Named) → refusal_of H its None ≡ due → MakesFair H (refused_or due (made (answered_by (done_of H its.command)) (accepted H its None)))
+refused_fair H None its e = ((first_none (own_refusal H its.command None) _ e).0, tt)
+refused_fair H (Some why) its e = tt
 
 numbered_fair : (H : History) (its : Named) (earlier : Option Earlier) → MakesFair H (numbered_step H its earlier)
-numbered_fair H its None = refused_fair H (refusal_of H its None) its
+numbered_fair H its None = refused_fair H (refusal_of H its None) its refl
 numbered_fair H its (Some earlier) = either H (is_same_command earlier.command its.command) (told (answered_by earlier.reply)) (refused (refusal.IdReused earlier.place)) tt tt
 
 job_fair : (H : History) (number : ℕ) (job : Option Job) → MakesFair H (job_look number job)
@@ -174,10 +178,6 @@ published_next H caller number (Draw publication text) reply read all = all
 
 -- Rows that are replayed
 
-first_none : {A : Type 0} (a b : Option A) → first_of_two a b ≡ None → (a ≡ None) × (b ≡ None)
-first_none None b e = (refl, e)
-first_none (Some x) b e = none_some x (sym e)
-
 unpublished : (number : Option ℕ) → published_refusal number ≡ None → number ≡ None
 unpublished None e = refl
 unpublished (Some number) e = none_some (refusal.AlreadyPublished number) (sym e)
@@ -225,7 +225,7 @@ replays_good H row next r good =
     let own : own_refusal H r.its.command r.read ≡ None = (first_none _ _ r.is_right).0 in
     subst IsGood (sym r.becomes)
     (
-      sound_next (accepted H r.its r.read) H (read_fair H r.its.command r.text r.read r.is_read own good.1) good.0,
+      sound_next (accepted H r.its r.read) H (own, read_fair H r.its.command r.text r.read r.is_read own good.1) good.0,
       published_next H r.its.caller r.its.number r.its.command (done_of H r.its.command) r.read good.1,
     )
 
