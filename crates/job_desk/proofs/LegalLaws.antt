@@ -146,12 +146,12 @@ asked_fair chairs H (request.Take bench) may = take_fair H bench (held H bench)
 asked_fair chairs H (request.Finish bench job done) may = finish_fair H bench job done (held H bench) refl may.1
 asked_fair chairs H (request.Release bench) may = release_fair H bench (held H bench)
 
-made_fair : (chairs : List (List ℕ)) (H : History) (entry : Entry) → Makes chairs H entry → IsFair H entry
+pub made_fair : (chairs : List (List ℕ)) (H : History) (entry : Entry) → Makes chairs H entry → IsFair H entry
 made_fair chairs H entry makes = subst (λ (o : Option Entry). IfSome o (IsFair H)) makes.entry (asked_fair chairs H makes.request makes.may)
 
 -- Opened histories: each job with an answer has a publication
 
-abbrev IsPublished : Job → Type 0
+abbrev pub IsPublished : Job → Type 0
 IsPublished job = IfAnswered job.outcome (job.publication ≡ None → ⊥)
 
 published_edit : (later : ℕ) (outcome : Outcome) (P : Type 0) → IfAnswered outcome P → IfAnswered (after (Edits later) outcome) P
@@ -217,15 +217,19 @@ read_fair H (Publish job) text read is right all = lottery_fair H job text read 
 read_fair H (Draw publication drawn) text None is right all = tt
 read_fair H (Draw publication drawn) text (Some read) is right all = tt
 
-abbrev IsGood : History → Type 0
+abbrev pub IsGood : History → Type 0
 IsGood H = All (IsSound H) (jobs H) × All IsPublished (jobs H)
 
-replays_good : (H : History) (row : List ℕ) (next : History) → Replays H row next → IsGood H → IsGood next
-replays_good H row next r good =
+pub replays_fair : (H : History) (row : List ℕ) (next : History) (r : Replays H row next) → All IsPublished (jobs H) → IsFair H (accepted H r.its r.read)
+replays_fair H row next r all =
     let own : own_refusal H r.its.command r.read ≡ None = (first_none _ _ r.is_right).0 in
+    (own, read_fair H r.its.command r.text r.read r.is_read own all)
+
+pub replays_good : (H : History) (row : List ℕ) (next : History) → Replays H row next → IsGood H → IsGood next
+replays_good H row next r good =
     subst IsGood (sym r.becomes)
     (
-      sound_next (accepted H r.its r.read) H (own, read_fair H r.its.command r.text r.read r.is_read own good.1) good.0,
+      sound_next (accepted H r.its r.read) H (replays_fair H row next r good.1) good.0,
       published_next H r.its.caller r.its.number r.its.command (done_of H r.its.command) r.read good.1,
     )
 
@@ -233,7 +237,7 @@ replay_good : (H : History) (rows : List (List ℕ)) (end : History) → Replay 
 replay_good H [] end same good = subst IsGood (sym same) good
 replay_good H (row ∷ rows) end (next, first, rest) good = replay_good next rows end rest (replays_good H row next first good)
 
-none_good : IsGood []
+pub none_good : IsGood []
 none_good = (λ k d lt. absurd (omega arith), λ k d lt. absurd (omega arith))
 
 pub legal_sound : (chairs : List (List ℕ)) (H : History) → IsLegal chairs H → All (IsSound H) (jobs H)

@@ -1,4 +1,5 @@
 use Rattle.job_desk.proofs.LegalLaws.{certified_best, legal_shown, right_certificate}
+use Rattle.job_desk.proofs.PublishedLaws.{legal_published}
 use Rattle.job_desk.proofs.laws.evidence_laws.Goals as goal
 
 pub returns-clause-evidence : goal.returns-clause-evidence
@@ -9,3 +10,6 @@ returns-clause-readable c rules mode answer are is spelled = right_certificate r
 
 pub returns-clause-best : goal.returns-clause-best
 returns-clause-best c rules mode winning are is = certified_best rules mode winning are is
+
+pub returns-clause-published : goal.returns-clause-published
+returns-clause-published c chairs H legal = legal_published chairs H legal
