@@ -27,9 +27,11 @@ use Rattle.desk_history.specs.Looks.{rules_at}
 use Rattle.desk_history.specs.Opened.{IsLegal, Replay}
 use Rattle.desk_history.specs.Refusals.{counted, is_open, is_without, publish_refusal, published_refusal, publishing_refusal, refuse_if}
 use Rattle.desk_history.specs.Steps.{IsRight, accepted}
+use Rattle.desk_history.specs.Rows.{evidence_of}
+use Rattle.match_rules.specs.declared.answer.Mode.{Mode}
 use Rattle.std.specs.Prelude.{nat_lt}
 use Rattle.job_desk.specs.Evidence.{EachPublished, HasEvidence, IfAnswered, IsBacked}
-use Rattle.job_desk.proofs.EvidenceLaws.{IsFair, IsSound, all_nth, all_one, all_then, all_with_nth, none_some}
+use Rattle.job_desk.proofs.EvidenceLaws.{IsFair, IsSound, all_nth, all_one, all_then, all_with_nth, none_some, or_else}
 use Rattle.job_desk.proofs.LegalLaws.{IsGood, first_none, legal_sound, made_fair, none_good, replays_fair, replays_good}
 
 -- Lists
@@ -311,3 +313,14 @@ backed H publication (Some job) there won all =
 pub legal_published : (chairs : List (List ℕ)) (H : History) → IsLegal chairs H → EachPublished H
 legal_published chairs H legal =
     all_then (IsOfWon H) (IsBacked H) (publications H) (λ x won. backed H x (job_of H x.job) refl won (legal_sound chairs H legal)) (legal_won chairs H legal)
+
+-- a job that may be published has a right answer as its evidence
+pub publishable_right : (chairs : List (List ℕ)) (H : History) (number : ℕ) (job : Option Job) → IsLegal chairs H → job_of H number ≡ job → publish_refusal (edits H) None job ≡ None
+    → (certificate : Certificate) → evidence_of H job ≡ Some certificate → (mode : Mode) × IsRight certificate.rules mode certificate.answer
+publishable_right chairs H number None legal found e certificate there = none_some certificate there
+publishable_right chairs H number (Some job) legal found e certificate there =
+    let is : IsTimely (edits H) job = all_nth (IsTimely (edits H)) (jobs H) number job (timely H) found in
+    let won : IsWon job.outcome = won_accepted (edits H) job job.outcome e is.1 in
+    let has : HasEvidence H job = won_evidence job.outcome (HasEvidence H job) won (all_nth (IsSound H) (jobs H) number job (legal_sound chairs H legal) found).1 in
+    let same : certificate ≡ record { rules = rules_at H job.edition; answer = has.answer } = ap (or_else certificate) (sym there ∙ has.shown) in
+    (job.mode, subst (λ (c : Certificate). IsRight c.rules job.mode c.answer) (sym same) has.right)
