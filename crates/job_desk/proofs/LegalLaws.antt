@@ -1,8 +1,7 @@
 -- In a legal history each entry brings what is right, so each job with an answer has evidence.
 use Rattle.std.proofs.Common.{◌≡◌, ℕ, ◌+◌, Bool, true, false, cond, eqb, List, [], ◌∷◌, length, All, get_or, Option, None, Some, IfSome, refl, subst, arith, ap, sym, ◌∙◌, inl, inr, ne_eqb}
-use Rattle.std.specs.Prelude.{⊤}
 use Rattle.std.proofs.lemmas.List.Elements.{All-map, All-append}
-use Rattle.std.proofs.lemmas.Bool.{cases_eq, false≢true}
+use Rattle.std.proofs.lemmas.Bool.{cases_eq}
 use Rattle.match_rules.specs.First.{first_of_two}
 use Rattle.match_rules.specs.Answers.{Certified as IsCertified}
 use Rattle.match_rules.specs.Assignments.{Best}
@@ -23,7 +22,7 @@ use Rattle.desk_keeper.specs.declared.words.Command.TheVariants.{Edit, Submit, P
 use Rattle.desk_keeper.specs.declared.words.Named.{Named}
 use Rattle.desk_history.specs.declared.entries.Done.{Done}
 use Rattle.desk_history.specs.declared.entries.Entry.{Entry}
-use Rattle.desk_history.specs.declared.entries.Entry.TheVariants.{Accepted, Took, Ended, Released}
+use Rattle.desk_history.specs.declared.entries.Entry.TheVariants.{Accepted}
 use Rattle.desk_history.specs.declared.jobs.Job.{Job}
 use Rattle.desk_history.specs.declared.jobs.Publication.{Publication}
 use Rattle.desk_history.specs.declared.jobs.Outcome.{Outcome}
@@ -38,13 +37,13 @@ use Rattle.desk_history.specs.declared.requests.Work.{Work}
 use Rattle.desk_history.specs.Outcomes.{Edits, after}
 use Rattle.desk_history.specs.Histories.{Earlier, History, changed, edits, evidence, held, job_of, jobs, kept, new_job, nth_of, publications, published}
 use Rattle.desk_history.specs.Looks.{Step, answer_look, decided_look, drawn_piece, job_look, look_step, pairs_look, piece_look, publication_look, refused, rules_at, shown, ticket_look, told}
-use Rattle.desk_history.specs.Opened.{IsLegal, IsLotteryOf, IsReadWith, Makes, Opens, Replay, Replays}
-use Rattle.desk_history.specs.Refusals.{counted, full_refusal, is_open, is_without, own_refusal, publish_refusal, published_refusal, publishing_refusal, refusal_of, refuse_if}
+use Rattle.desk_history.specs.Opened.{IsLegal, IsLotteryOf, IsReadWith, Makes, Replay, Replays}
+use Rattle.desk_history.specs.Refusals.{counted, is_open, is_without, own_refusal, publish_refusal, published_refusal, publishing_refusal, refusal_of, refuse_if}
 use Rattle.desk_history.specs.Rows.{evidence_of}
 use Rattle.desk_history.specs.SameCommands.{is_same_command}
-use Rattle.desk_history.specs.Steps.{IsRight, IsWorkFor, MayAsk, accepted, answered_by, command_step, done_of, finish_job, finish_step, first_waiting, holds, is_chair, made, new_step, numbered_step, refused_or, release_at, repeat_step, snapshot, step, take_at, take_first}
-use Rattle.job_desk.specs.Evidence.{AnsweredAreShown, HasEvidence, IfAnswered, IsShown}
-use Rattle.job_desk.proofs.EvidenceLaws.{IsFair, IsReadRight, IsReadRightIn, IsSound, all_nth, all_one, all_with_nth, if_always, if_then, none_some, or_else, sound_next}
+use Rattle.desk_history.specs.Steps.{IsRight, IsWorkFor, MayAsk, accepted, answered_by, command_step, done_of, finish_job, first_waiting, holds, is_chair, made, numbered_step, refused_or, release_at, step, take_at, take_first}
+use Rattle.job_desk.specs.Evidence.{AnsweredAreShown, IfAnswered}
+use Rattle.job_desk.proofs.EvidenceLaws.{IsFair, IsReadRightIn, IsSound, all_nth, all_one, all_with_nth, if_always, if_then, none_some, or_else, sound_next}
 
 -- Entries that requests make
 
@@ -197,8 +196,7 @@ publish_fresh H number read right all job found =
 lottery_fair : (H : History) (number : ℕ) (text : List ℕ) (read : Option Certificate) → IsLotteryOf H number text read → publish_refusal (edits H) read (job_of H number) ≡ None → All IsPublished (jobs H) → IsReadRightIn H (Publish number) read
 lottery_fair H number text None is right all = tt
 lottery_fair H number text (Some read) is right all =
-    let same : read ≡ record { rules = rules_at H is.job.edition; answer = answer.Lottery is.winning } = ap (or_else read) is.read in
-    (
+    let same : read ≡ record { rules = rules_at H is.job.edition; answer = answer.Lottery is.winning } = ap (or_else read) is.read in (
       record {
         job = is.job;
         there = is.there;
@@ -227,8 +225,7 @@ replays_fair H row next r all =
 
 pub replays_good : (H : History) (row : List ℕ) (next : History) → Replays H row next → IsGood H → IsGood next
 replays_good H row next r good =
-    subst IsGood (sym r.becomes)
-    (
+    subst IsGood (sym r.becomes) (
       sound_next (accepted H r.its r.read) H (replays_fair H row next r good.1) good.0,
       published_next H r.its.caller r.its.number r.its.command (done_of H r.its.command) r.read good.1,
     )

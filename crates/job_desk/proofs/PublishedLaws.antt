@@ -1,5 +1,5 @@
 -- In a legal history each publication is of a job with a certified lottery.
-use Rattle.std.proofs.Common.{◌≡◌, ◌∙◌, ℕ, ◌+◌, ◌-◌, ◌≤◌, ◌<◌, Bool, true, false, cond, eqb, List, [], ◌∷◌, ◌++◌, length, map, set, All, get_or, Option, None, Some, IfSome, refl, subst, arith, ap, sym, zero, suc, ltb, inl, inr}
+use Rattle.std.proofs.Common.{◌≡◌, ◌∙◌, ℕ, ◌+◌, ◌-◌, ◌≤◌, ◌<◌, Bool, true, false, cond, eqb, List, [], ◌∷◌, ◌++◌, length, map, set, All, get_or, Option, None, Some, refl, subst, arith, ap, sym, zero, suc, ltb, inl, inr}
 use Rattle.std.proofs.Common.{rules}
 use Rattle.std.specs.Prelude.{⊤}
 use Rattle.std.specs.List.{slice_get}
@@ -25,7 +25,7 @@ use Rattle.desk_history.specs.Outcomes.{Event, Takes, Ends, Releases, Edits, Rea
 use Rattle.desk_history.specs.Histories.{History, changed, drawn, edits, ended, evidence, held, job_of, jobs, new_job, nth_of, publications, published, with_at, with_held, with_nth}
 use Rattle.desk_history.specs.Looks.{rules_at}
 use Rattle.desk_history.specs.Opened.{IsLegal, Replay}
-use Rattle.desk_history.specs.Refusals.{counted, is_open, is_without, publish_refusal, published_refusal, publishing_refusal, refuse_if}
+use Rattle.desk_history.specs.Refusals.{counted, is_open, is_without, publish_refusal, publishing_refusal, refuse_if}
 use Rattle.desk_history.specs.Steps.{IsRight, accepted}
 use Rattle.desk_history.specs.Rows.{evidence_of}
 use Rattle.match_rules.specs.declared.answer.Mode.{Mode}
