@@ -1,19 +1,14 @@
 -- In a legal history each job with an answer has evidence.
-use Rattle.std.proofs.Common.{◌≡◌, ℕ, ◌+◌, ◌-◌, ◌≤◌, ◌<◌, Bool, true, false, cond, eqb, List, [], ◌∷◌, length, All, get_or, Option, None, Some, IfSome, refl, subst, arith, zero, suc, ltb, ap, sym, ◌∙◌, eq-eqb, ne_eqb, ⊎_elim, inl, inr}
+use Rattle.std.proofs.Common.{◌≡◌, ℕ, ◌+◌, ◌-◌, ◌≤◌, ◌<◌, Bool, true, false, cond, eqb, List, [], ◌∷◌, length, All, get_or, Option, None, Some, IfSome, refl, subst, arith, zero, suc, ltb, ap, sym, ◌∙◌, eq-eqb, ne_eqb, inl, inr}
 use Rattle.std.specs.Prelude.{⊤}
 use Rattle.std.proofs.lemmas.List.Elements.{All-set, All-map, All-append}
 use Rattle.std.proofs.lemmas.Bool.{cases_eq, false≢true}
 use Rattle.std.proofs.Common.{rules}
 use Rattle.std.proofs.lemmas.Option.{slice_get_within, get_or_from_slice_get}
 use Rattle.std.specs.List.{slice_get}
-use Rattle.match_rules.specs.First.{first_of_two}
-use Rattle.match_rules.specs.declared.answer.Answer.{Answer}
-use Rattle.match_rules.specs.declared.answer.Answer.TheVariants as answer
-use Rattle.match_rules.specs.declared.answer.Mode.{Mode}
 use Rattle.publication.specs.declared.certificate.Certificate.{Certificate}
 use Rattle.desk_keeper.specs.declared.words.Command.{Command}
 use Rattle.desk_keeper.specs.declared.words.Command.TheVariants.{Edit, Submit, Publish, Draw}
-use Rattle.desk_keeper.specs.declared.words.Named.{Named}
 use Rattle.desk_history.specs.declared.entries.Done.{Done}
 use Rattle.desk_history.specs.declared.entries.Entry.{Entry}
 use Rattle.desk_history.specs.declared.entries.Entry.TheVariants.{Accepted, Took, Ended, Released}
@@ -22,12 +17,13 @@ use Rattle.desk_history.specs.declared.jobs.Outcome.{Outcome}
 use Rattle.desk_history.specs.declared.jobs.Outcome.TheVariants.{Waiting, Taken, Certified, Infeasible, Stale, OutOfMemory}
 use Rattle.desk_history.specs.declared.requests.Work.{Work}
 use Rattle.desk_history.specs.declared.requests.Work.TheVariants as work
-use Rattle.desk_history.specs.Outcomes.{Event, Takes, Ends, Releases, Edits, Reads, after, answered_outcome, worked_outcome}
-use Rattle.desk_history.specs.Histories.{History, brought_at, brought_by, changed, decides, edition, edits, ended, evidence, held, job_of, jobs, new_job, nth_of, present, published, publications, with_at, with_held, with_nth}
+use Rattle.desk_history.specs.Outcomes.{Takes, Ends, Releases, Edits, Reads, after, answered_outcome, worked_outcome}
+use Rattle.desk_history.specs.Histories.{History, brought_at, brought_by, changed, decides, edition, edits, ended, evidence, held, job_of, jobs, new_job, nth_of, published, publications, with_at, with_held, with_nth}
 use Rattle.desk_history.specs.Looks.{rules_at, rules_or_none}
+use Rattle.desk_history.specs.Refusals.{own_refusal}
 use Rattle.desk_history.specs.Steps.{IsRight, IsRightFor, IsWorkFor}
 use Rattle.venue_rules.specs.VenueRules.{rules_of}
-use Rattle.job_desk.specs.Evidence.{AnsweredAreShown, HasEvidence, IfAnswered, IsShown}
+use Rattle.job_desk.specs.Evidence.{HasEvidence, IfAnswered, IsShown}
 
 -- Options
 
@@ -65,7 +61,7 @@ pub all_one : {A : Type 0} (P : A → Type 0) (x : A) → P x → All P (x ∷ [
 all_one P x p zero d lt = p
 all_one P x p (suc k) d lt = absurd (omega arith)
 
-all_then : {A : Type 0} (P Q : A → Type 0) (xs : List A) → ((x : A) → P x → Q x) → All P xs → All Q xs
+pub all_then : {A : Type 0} (P Q : A → Type 0) (xs : List A) → ((x : A) → P x → Q x) → All P xs → All Q xs
 all_then P Q xs step all = λ k d lt. step (get_or xs k d) (all k d lt)
 
 -- What stays behind a further entry
@@ -141,11 +137,10 @@ IsSound H job = (job.edition ≤ edits H) × IsShown H job
 sound_later : (entry : Entry) (H : History) (job : Job) → IsSound H job → IsSound (entry ∷ H) job
 sound_later entry H job is =
     let within : job.edition ≤ edits H = is.0 in
-    let more : edits H ≤ edits (entry ∷ H) = edits_later entry H in
-    (
+    let more : edits H ≤ edits (entry ∷ H) = edits_later entry H in (
       omega (arith, within, more),
       if_then job.outcome (HasEvidence H job) (HasEvidence (entry ∷ H) job)
-      (shown_by H (entry ∷ H) job (rules_later entry H job.edition within) (λ shown e. brought_later entry H job.decided shown e)) is.1,
+          (shown_by H (entry ∷ H) job (rules_later entry H job.edition within) (λ shown e. brought_later entry H job.decided shown e)) is.1,
     )
 
 all_later : (entry : Entry) (H : History) → All (IsSound H) (jobs H) → All (IsSound (entry ∷ H)) (jobs H)
@@ -187,7 +182,7 @@ answered_now H bench number job certificate found is =
     record {
       answer = certificate.answer;
       shown = ap (λ t. cond t (Some certificate) (brought_at H (Some (length H)))) (eq-eqb (length H) (length H) refl)
-        ∙ ap (λ r. Some (record { rules = r; answer = certificate.answer })) (is.rules ∙ ap (λ (j : Job). rules_at H j.edition) same);
+          ∙ ap (λ r. Some (record { rules = r; answer = certificate.answer })) (is.rules ∙ ap (λ (j : Job). rules_at H j.edition) same);
       right = subst (λ (j : Job). IsRight (rules_at H j.edition) j.mode certificate.answer) same is.right;
       told = refl;
     }
@@ -222,7 +217,7 @@ IsReadRightIn H command None = ⊤
 IsReadRightIn H command (Some read) = IsReadRight H command read
 
 abbrev pub IsFair : History → Entry → Type 0
-IsFair H (Accepted caller number command reply read) = IsReadRightIn H command read
+IsFair H (Accepted caller number command reply read) = (own_refusal H command read ≡ None) × IsReadRightIn H command read
 IsFair H (Took bench job) = ⊤
 IsFair H (Ended bench done) = IfSome (held H bench) (λ number. IsWorkFor H number done)
 IsFair H (Released bench) = ⊤
@@ -238,7 +233,7 @@ read_now H caller numbered number new reply job certificate found is =
     record {
       answer = certificate.answer;
       shown = ap (λ t. cond t (Some certificate) (brought_at H (Some (length H)))) (eq-eqb (length H) (length H) refl)
-        ∙ ap (λ r. Some (record { rules = r; answer = certificate.answer })) (is.rules ∙ ap (λ (j : Job). rules_at H j.edition) same);
+          ∙ ap (λ r. Some (record { rules = r; answer = certificate.answer })) (is.rules ∙ ap (λ (j : Job). rules_at H j.edition) same);
       right = subst (λ (j : Job). IsRight (rules_at H j.edition) j.mode certificate.answer) same is.right;
       told = refl;
     }
@@ -258,7 +253,7 @@ sound_published : (H : History) (caller : List ℕ) (numbered number new : ℕ) 
 sound_published H caller numbered number new reply None job fair found is = (
   is.0,
   if_then job.outcome (HasEvidence (Accepted caller numbered (Publish number) reply None ∷ H) job) (HasEvidence (Accepted caller numbered (Publish number) reply None ∷ H) (record job { publication = Some new }))
-  (with_publication (Accepted caller numbered (Publish number) reply None ∷ H) job new) is.1,
+      (with_publication (Accepted caller numbered (Publish number) reply None ∷ H) job new) is.1,
 )
 sound_published H caller numbered number new reply (Some certificate) job fair found is =
     (is.0, by_reading H caller numbered number new reply job certificate job.outcome found fair.0 (fair.1 job found))
@@ -283,7 +278,7 @@ sound_behind (Accepted caller number (Submit base mode) reply read) H fair all =
     (all_one (IsSound (Accepted caller number (Submit base mode) reply read ∷ H)) (new_job (edits H) mode) (omega arith, tt))
 sound_behind (Accepted caller number (Publish job) reply read) H fair all =
     all_with_nth (IsSound (Accepted caller number (Publish job) reply read ∷ H)) (jobs H) job (published read (length H) (length (publications H) + 1))
-    (λ x found is. sound_published H caller number job (length (publications H) + 1) reply read x fair found is) all
+    (λ x found is. sound_published H caller number job (length (publications H) + 1) reply read x fair.1 found is) all
 sound_behind (Accepted caller number (Draw publication text) reply read) H fair all = all
 sound_behind (Took bench job) H fair all =
     all_with_nth (IsSound (Took bench job ∷ H)) (jobs H) job (changed Takes) (λ x found is. (is.0, by_take (Took bench job ∷ H) x x.outcome refl is.1)) all

@@ -1,8 +1,7 @@
 -- In a legal history each entry brings what is right, so each job with an answer has evidence.
 use Rattle.std.proofs.Common.{◌≡◌, ℕ, ◌+◌, Bool, true, false, cond, eqb, List, [], ◌∷◌, length, All, get_or, Option, None, Some, IfSome, refl, subst, arith, ap, sym, ◌∙◌, inl, inr, ne_eqb}
-use Rattle.std.specs.Prelude.{⊤}
 use Rattle.std.proofs.lemmas.List.Elements.{All-map, All-append}
-use Rattle.std.proofs.lemmas.Bool.{cases_eq, false≢true}
+use Rattle.std.proofs.lemmas.Bool.{cases_eq}
 use Rattle.match_rules.specs.First.{first_of_two}
 use Rattle.match_rules.specs.Answers.{Certified as IsCertified}
 use Rattle.match_rules.specs.Assignments.{Best}
@@ -23,7 +22,7 @@ use Rattle.desk_keeper.specs.declared.words.Command.TheVariants.{Edit, Submit, P
 use Rattle.desk_keeper.specs.declared.words.Named.{Named}
 use Rattle.desk_history.specs.declared.entries.Done.{Done}
 use Rattle.desk_history.specs.declared.entries.Entry.{Entry}
-use Rattle.desk_history.specs.declared.entries.Entry.TheVariants.{Accepted, Took, Ended, Released}
+use Rattle.desk_history.specs.declared.entries.Entry.TheVariants.{Accepted}
 use Rattle.desk_history.specs.declared.jobs.Job.{Job}
 use Rattle.desk_history.specs.declared.jobs.Publication.{Publication}
 use Rattle.desk_history.specs.declared.jobs.Outcome.{Outcome}
@@ -38,15 +37,19 @@ use Rattle.desk_history.specs.declared.requests.Work.{Work}
 use Rattle.desk_history.specs.Outcomes.{Edits, after}
 use Rattle.desk_history.specs.Histories.{Earlier, History, changed, edits, evidence, held, job_of, jobs, kept, new_job, nth_of, publications, published}
 use Rattle.desk_history.specs.Looks.{Step, answer_look, decided_look, drawn_piece, job_look, look_step, pairs_look, piece_look, publication_look, refused, rules_at, shown, ticket_look, told}
-use Rattle.desk_history.specs.Opened.{IsLegal, IsLotteryOf, IsReadWith, Makes, Opens, Replay, Replays}
-use Rattle.desk_history.specs.Refusals.{counted, full_refusal, is_open, is_without, own_refusal, publish_refusal, published_refusal, publishing_refusal, refusal_of, refuse_if}
+use Rattle.desk_history.specs.Opened.{IsLegal, IsLotteryOf, IsReadWith, Makes, Replay, Replays}
+use Rattle.desk_history.specs.Refusals.{counted, is_open, is_without, own_refusal, publish_refusal, published_refusal, publishing_refusal, refusal_of, refuse_if}
 use Rattle.desk_history.specs.Rows.{evidence_of}
 use Rattle.desk_history.specs.SameCommands.{is_same_command}
-use Rattle.desk_history.specs.Steps.{IsRight, IsWorkFor, MayAsk, accepted, answered_by, command_step, done_of, finish_job, finish_step, first_waiting, holds, is_chair, made, new_step, numbered_step, refused_or, release_at, repeat_step, snapshot, step, take_at, take_first}
-use Rattle.job_desk.specs.Evidence.{AnsweredAreShown, HasEvidence, IfAnswered, IsShown}
-use Rattle.job_desk.proofs.EvidenceLaws.{IsFair, IsReadRight, IsReadRightIn, IsSound, all_nth, all_one, all_with_nth, if_always, if_then, none_some, or_else, sound_next}
+use Rattle.desk_history.specs.Steps.{IsRight, IsWorkFor, MayAsk, accepted, answered_by, command_step, done_of, finish_job, first_waiting, holds, is_chair, made, numbered_step, refused_or, release_at, step, take_at, take_first}
+use Rattle.job_desk.specs.Evidence.{AnsweredAreShown, IfAnswered}
+use Rattle.job_desk.proofs.EvidenceLaws.{IsFair, IsReadRightIn, IsSound, all_nth, all_one, all_with_nth, if_always, if_then, none_some, or_else, sound_next}
 
 -- Entries that requests make
+
+pub first_none : {A : Type 0} (a b : Option A) → first_of_two a b ≡ None → (a ≡ None) × (b ≡ None)
+first_none None b e = (refl, e)
+first_none (Some x) b e = none_some x (sym e)
 
 abbrev MakesFair : History → Step → Type 0
 MakesFair H made_step = IfSome made_step.entry (IsFair H)
@@ -55,12 +58,12 @@ either : (H : History) (test : Bool) (a b : Step) → MakesFair H a → MakesFai
 either H true a b left right = left
 either H false a b left right = right
 
-refused_fair : (H : History) (due : Option Refusal) (its : Named) → MakesFair H (refused_or due (made (answered_by (done_of H its.command)) (accepted H its None)))
-refused_fair H None its = tt
-refused_fair H (Some why) its = tt
+refused_fair : (H : History) (due : Option Refusal) (its : Named) → refusal_of H its None ≡ due → MakesFair H (refused_or due (made (answered_by (done_of H its.command)) (accepted H its None)))
+refused_fair H None its e = ((first_none (own_refusal H its.command None) _ e).0, tt)
+refused_fair H (Some why) its e = tt
 
 numbered_fair : (H : History) (its : Named) (earlier : Option Earlier) → MakesFair H (numbered_step H its earlier)
-numbered_fair H its None = refused_fair H (refusal_of H its None) its
+numbered_fair H its None = refused_fair H (refusal_of H its None) its refl
 numbered_fair H its (Some earlier) = either H (is_same_command earlier.command its.command) (told (answered_by earlier.reply)) (refused (refusal.IdReused earlier.place)) tt tt
 
 job_fair : (H : History) (number : ℕ) (job : Option Job) → MakesFair H (job_look number job)
@@ -142,12 +145,12 @@ asked_fair chairs H (request.Take bench) may = take_fair H bench (held H bench)
 asked_fair chairs H (request.Finish bench job done) may = finish_fair H bench job done (held H bench) refl may.1
 asked_fair chairs H (request.Release bench) may = release_fair H bench (held H bench)
 
-made_fair : (chairs : List (List ℕ)) (H : History) (entry : Entry) → Makes chairs H entry → IsFair H entry
+pub made_fair : (chairs : List (List ℕ)) (H : History) (entry : Entry) → Makes chairs H entry → IsFair H entry
 made_fair chairs H entry makes = subst (λ (o : Option Entry). IfSome o (IsFair H)) makes.entry (asked_fair chairs H makes.request makes.may)
 
 -- Opened histories: each job with an answer has a publication
 
-abbrev IsPublished : Job → Type 0
+abbrev pub IsPublished : Job → Type 0
 IsPublished job = IfAnswered job.outcome (job.publication ≡ None → ⊥)
 
 published_edit : (later : ℕ) (outcome : Outcome) (P : Type 0) → IfAnswered outcome P → IfAnswered (after (Edits later) outcome) P
@@ -174,10 +177,6 @@ published_next H caller number (Draw publication text) reply read all = all
 
 -- Rows that are replayed
 
-first_none : {A : Type 0} (a b : Option A) → first_of_two a b ≡ None → (a ≡ None) × (b ≡ None)
-first_none None b e = (refl, e)
-first_none (Some x) b e = none_some x (sym e)
-
 unpublished : (number : Option ℕ) → published_refusal number ≡ None → number ≡ None
 unpublished None e = refl
 unpublished (Some number) e = none_some (refusal.AlreadyPublished number) (sym e)
@@ -197,8 +196,7 @@ publish_fresh H number read right all job found =
 lottery_fair : (H : History) (number : ℕ) (text : List ℕ) (read : Option Certificate) → IsLotteryOf H number text read → publish_refusal (edits H) read (job_of H number) ≡ None → All IsPublished (jobs H) → IsReadRightIn H (Publish number) read
 lottery_fair H number text None is right all = tt
 lottery_fair H number text (Some read) is right all =
-    let same : read ≡ record { rules = rules_at H is.job.edition; answer = answer.Lottery is.winning } = ap (or_else read) is.read in
-    (
+    let same : read ≡ record { rules = rules_at H is.job.edition; answer = answer.Lottery is.winning } = ap (or_else read) is.read in (
       record {
         job = is.job;
         there = is.there;
@@ -217,15 +215,18 @@ read_fair H (Publish job) text read is right all = lottery_fair H job text read 
 read_fair H (Draw publication drawn) text None is right all = tt
 read_fair H (Draw publication drawn) text (Some read) is right all = tt
 
-abbrev IsGood : History → Type 0
+abbrev pub IsGood : History → Type 0
 IsGood H = All (IsSound H) (jobs H) × All IsPublished (jobs H)
 
-replays_good : (H : History) (row : List ℕ) (next : History) → Replays H row next → IsGood H → IsGood next
-replays_good H row next r good =
+pub replays_fair : (H : History) (row : List ℕ) (next : History) (r : Replays H row next) → All IsPublished (jobs H) → IsFair H (accepted H r.its r.read)
+replays_fair H row next r all =
     let own : own_refusal H r.its.command r.read ≡ None = (first_none _ _ r.is_right).0 in
-    subst IsGood (sym r.becomes)
-    (
-      sound_next (accepted H r.its r.read) H (read_fair H r.its.command r.text r.read r.is_read own good.1) good.0,
+    (own, read_fair H r.its.command r.text r.read r.is_read own all)
+
+pub replays_good : (H : History) (row : List ℕ) (next : History) → Replays H row next → IsGood H → IsGood next
+replays_good H row next r good =
+    subst IsGood (sym r.becomes) (
+      sound_next (accepted H r.its r.read) H (replays_fair H row next r good.1) good.0,
       published_next H r.its.caller r.its.number r.its.command (done_of H r.its.command) r.read good.1,
     )
 
@@ -233,7 +234,7 @@ replay_good : (H : History) (rows : List (List ℕ)) (end : History) → Replay 
 replay_good H [] end same good = subst IsGood (sym same) good
 replay_good H (row ∷ rows) end (next, first, rest) good = replay_good next rows end rest (replays_good H row next first good)
 
-none_good : IsGood []
+pub none_good : IsGood []
 none_good = (λ k d lt. absurd (omega arith), λ k d lt. absurd (omega arith))
 
 pub legal_sound : (chairs : List (List ℕ)) (H : History) → IsLegal chairs H → All (IsSound H) (jobs H)

@@ -4,3 +4,4 @@ mod CommandLaws
 mod EditLaws
 mod FindLaws
 mod LegalLaws
+mod PublishedLaws

@@ -1,10 +1,14 @@
 -- What holds of every legal history: an answered job has evidence.
 use Rattle.std.specs.Prelude.{◌≡◌, All, Some, ⊤}
+use Rattle.match_rules.specs.Answers.{Certified as IsCertified}
 use Rattle.match_rules.specs.declared.answer.Answer.{Answer}
+use Rattle.match_rules.specs.declared.answer.Answer.TheVariants.{Lottery}
+use Rattle.match_rules.specs.declared.answer.Winning.{Winning}
 use Rattle.desk_history.specs.declared.jobs.Job.{Job}
+use Rattle.desk_history.specs.declared.jobs.Publication.{Publication}
 use Rattle.desk_history.specs.declared.jobs.Outcome.{Outcome}
 use Rattle.desk_history.specs.declared.jobs.Outcome.TheVariants.{Waiting, Taken, Certified, Infeasible, Stale, OutOfMemory}
-use Rattle.desk_history.specs.Histories.{History, evidence, jobs}
+use Rattle.desk_history.specs.Histories.{History, evidence, job_of, jobs, publications}
 use Rattle.desk_history.specs.Looks.{rules_at}
 use Rattle.desk_history.specs.Outcomes.{answered_outcome}
 use Rattle.desk_history.specs.Steps.{IsRight}
@@ -31,3 +35,14 @@ IsShown H job = IfAnswered job.outcome (HasEvidence H job)
 -- each job with an answer has evidence
 abbrev pub AnsweredAreShown : History → Type 0
 AnsweredAreShown H = All (IsShown H) (jobs H)
+
+-- a publication is of a job whose evidence is a lottery that is certified for the rules of its edition in its mode
+pub record IsBacked (H : History) (publication : Publication) : Type 0 where
+  pub job : Job
+  pub winning : Winning
+  pub there : job_of H publication.job ≡ Some job
+  pub shown : evidence H job ≡ Some (record { rules = rules_at H job.edition; answer = Lottery winning })
+  pub certified : IsCertified (rules_at H job.edition) job.mode winning
+
+abbrev pub EachPublished : History → Type 0
+EachPublished H = All (IsBacked H) (publications H)

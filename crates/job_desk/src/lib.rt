@@ -8,6 +8,7 @@ mod keeping;
 mod laws;
 mod looks;
 mod lookups;
+mod lottery_texts;
 mod rows_of_commands;
 mod submits;
 
@@ -18,5 +19,6 @@ pub use keeping::{append, note_accepted, row_for};
 pub use laws::evidence_laws;
 pub use looks::{job_look, now, outcome_of, publications, rules_now};
 pub use lookups::{Repeat, repeat_of, repeated};
+pub use lottery_texts::text_of_answer;
 pub use rows_of_commands::{row_of_accepted, row_of_draw, row_of_submit};
 pub use submits::submit;

@@ -1,4 +1,7 @@
 use Rattle.job_desk.proofs.LegalLaws.{certified_best, legal_shown, right_certificate}
+use Rattle.std.proofs.Common.{refl}
+use Rattle.desk_history.specs.Histories.{job_of}
+use Rattle.job_desk.proofs.PublishedLaws.{legal_published, publishable_right}
 use Rattle.job_desk.proofs.laws.evidence_laws.Goals as goal
 
 pub returns-clause-evidence : goal.returns-clause-evidence
@@ -9,3 +12,9 @@ returns-clause-readable c rules mode answer are is spelled = right_certificate r
 
 pub returns-clause-best : goal.returns-clause-best
 returns-clause-best c rules mode winning are is = certified_best rules mode winning are is
+
+pub returns-clause-published : goal.returns-clause-published
+returns-clause-published c chairs H legal = legal_published chairs H legal
+
+pub returns-clause-publishable : goal.returns-clause-publishable
+returns-clause-publishable c chairs H number certificate legal right there = publishable_right chairs H number (job_of H number) legal refl right certificate there
