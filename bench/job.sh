@@ -38,37 +38,41 @@ def said(command, text):
     done = subprocess.run(command, input=text, capture_output=True)
     return f"{done.returncode} {done.stdout.decode().strip()}"
 
-def job(name):
+def prepared(name):
+    """The folder of a conference, and the network of its rules."""
     where = f"{folder}/{name}"
     rules = subprocess.run([matcher, "rules"], cwd=where, capture_output=True).stdout
-    network = subprocess.run([sys.executable, f"{here}/network_of_rules.py"], input=rules, capture_output=True).stdout
+    return where, subprocess.run([sys.executable, f"{here}/network_of_rules.py"], input=rules, capture_output=True).stdout
+
+def check_line(name, certificate):
+    """What both checkers say of a certificate."""
+    checked = said([matcher, "check"], certificate)
+    second = said([sys.executable, f"{here}/../checker/check.py"], certificate)
+    if checked != second:
+        sys.exit(f"{name}: matcher says {checked}, the second checker {second}")
+    return checked
+
+def job(name):
+    where, network = prepared(name)
     ours, done = seconds([matcher, "solve", "whole"], where)
     lemon, theirs = seconds([f"{folder}/lemon", "simplex"], where, network)
-    checked = said([matcher, "check"], done.stdout)
-    second = said([sys.executable, f"{here}/../checker/check.py"], done.stdout)
+    checked = check_line(name, done.stdout)
     print(f"{name}: status {done.returncode}, {len(done.stdout)} bytes; check says {checked}")
     print(f"{name}: matcher solve whole {ours:.3f} s, LEMON reads and solves in {lemon:.3f} s, ratio {ours / lemon:.2f}")
-    if checked != second:
-        sys.exit(f"{name}: the second checker says {second}")
     cost = int(theirs.stdout)
     if f"total {-cost} " not in checked:
         sys.exit(f"{name}: LEMON's cost is {cost}")
 
 def fair(name):
     """The mode fair beside the mode whole, and beside LEMON's search for the threshold."""
-    where = f"{folder}/{name}"
-    rules = subprocess.run([matcher, "rules"], cwd=where, capture_output=True).stdout
-    network = subprocess.run([sys.executable, f"{here}/network_of_rules.py"], input=rules, capture_output=True).stdout
+    where, network = prepared(name)
     whole, _ = seconds([matcher, "solve", "whole"], where)
     ours, done = seconds([matcher, "solve", "fair"], where)
     search = [subprocess.run([f"{folder}/lemon", "threshold"], input=network, capture_output=True) for _ in range(3)]
     lemon = statistics.median(float(one.stderr.split()[0]) for one in search)
-    checked = said([matcher, "check"], done.stdout)
-    second = said([sys.executable, f"{here}/../checker/check.py"], done.stdout)
+    checked = check_line(name, done.stdout)
     print(f"{name}: solve fair {ours:.3f} s, solve whole {whole:.3f} s; LEMON finds the threshold in {lemon:.3f} s; check says {checked}")
     print(f"{name}: solve fair to solve whole and LEMON's search, ratio {ours / (whole + lemon):.2f}")
-    if checked != second:
-        sys.exit(f"{name}: the second checker says {second}")
     if f"threshold {int(search[0].stdout)} " not in checked:
         sys.exit(f"{name}: LEMON's threshold is {int(search[0].stdout)}")
 
