@@ -6,6 +6,7 @@ use Rattle.std.proofs.lemmas.Bool.{cases_eq, eq-eqb, ne_eqb}
 use Rattle.std.proofs.lemmas.Grind.{same_number_lists}
 use Rattle.std.proofs.lemmas.List.{append-nil, get_or-replicate, length-replicate}
 use Rattle.match_rules.specs.Rules.{RulesValue}
+use Rattle.match_rules.specs.declared.rules.TheConstants.{MOST_PAIRS}
 use Rattle.match_rules.specs.Sums.{count_below, when}
 use Rattle.bounded_network.specs.declared.network.TheConstants.{MAX_ROOM}
 use Rattle.bounded_network.specs.declared.totals.Totals.{Totals}
@@ -31,7 +32,7 @@ when-small false x h = omega arith
 
 -- a sum of up to 250,000 amounts of 32 bits
 pub tally-small : (count : ℕ) (test : ℕ → ℕ → Bool) (amount : ℕ → ℕ) (n : ℕ) (totals : List ℕ) (v : ℕ) → IsTally count test amount n totals
-    → ((e : ℕ) → amount e < 2 ^ 32) → n ≤ 250000 → v < count → slice_index totals v ≤ MAX_ROOM
+    → ((e : ℕ) → amount e < 2 ^ 32) → n ≤ MOST_PAIRS → v < count → slice_index totals v ≤ MAX_ROOM
 tally-small count test amount n totals v tally words few lt =
     let most = count_below-at_most n (λ e. when (test v e) (amount e)) 4294967296 (λ e b. when-small (test v e) (amount e) (words e)) in
     omega (arith, most, tally.sums v lt)

@@ -7,17 +7,18 @@ use Rattle.std.proofs.lemmas.Bool.{cases_lt, cases_eq}
 use Rattle.std.proofs.lemmas.List.{get_or_past}
 use Rattle.bounded_network.specs.Network.{arc_at, potential_at}
 use Rattle.bounded_network.specs.declared.network.Arc.{Arc}
+use Rattle.bounded_network.specs.declared.network.TheConstants.{MAX_NODES}
 use Rattle.flow_solver.specs.declared.state.State.{State}
 use Rattle.flow_solver.specs.declared.search.Reach.{Reach}
 use Rattle.residual_arcs.specs.Step.{start_of, end_of, step_cost}
 use Rattle.flow_solver.specs.Step.{step_reduced}
-use Rattle.flow_solver.specs.State.{IsWithin}
+use Rattle.flow_solver.specs.State.{IsWithin, most_cost}
 use Rattle.flow_solver.specs.Search.{distance_at, reach_at, is_settled, IsTree, IsSearchOf}
 use Rattle.flow_solver.proofs.Searches.{step_cost_within}
 use Rattle.flow_solver.proofs.Settling.{tree_short}
 
 -- a potential is small
-pub potential_within : (state : State) → (v : ℕ) → IsWithin 2024008000000000 (potential_at state.potentials.items v)
+pub potential_within : (state : State) → (v : ℕ) → IsWithin (most_cost * MAX_NODES) (potential_at state.potentials.items v)
 potential_within state v = elim (cases_lt v state.network.now.nodes) [
   | inl below ↦ let b = state.kept.bounded v below in record { low = omega (arith, ints, b.low, state.good.few_nodes); high = omega (arith, ints, b.high, state.good.few_nodes) }
   | inr above ↦

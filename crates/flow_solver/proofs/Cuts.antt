@@ -5,6 +5,7 @@ use Rattle.std.proofs.lemmas.Int.{ints}
 use Rattle.match_rules.specs.Sums.{count_below, when}
 use Rattle.bounded_network.proofs.Sums.{count_below-at_most}
 use Rattle.bounded_network.specs.Network.{NetworkValue, IsNetwork, arc_at, is_marked}
+use Rattle.bounded_network.specs.declared.network.TheConstants.{MAX_ROOM, MAX_ARCS}
 use Rattle.flow_solver.specs.State.{IsWithin}
 use Rattle.residual_arcs.proofs.Amounts.{when_at_most}
 
@@ -25,9 +26,9 @@ IsBalanceTo net marks i balance =
 -- it is small
 pub IsBalanceTo-within : (net : NetworkValue) (marks : List Bool) (i : ℕ) (balance : ℤ) → IsNetwork net → i ≤ length net.arcs → IsBalanceTo net marks i balance → IsWithin (2 ^ 100) balance
 IsBalanceTo-within net marks i balance good i_in sums =
-    let into : count_below i (floor_into net marks) ≤ i * 2 ^ 50 = count_below-at_most i (floor_into net marks) (2 ^ 50) (λ a b. let arc = good.each a (omega arith) in omega (arith, arc.floor, arc.room, when_at_most (is_marked marks (arc_at net a).head && not (is_marked marks (arc_at net a).tail)) (arc_at net a).floor)) in
-    let out : count_below i (room_out net marks) ≤ i * 2 ^ 50 = count_below-at_most i (room_out net marks) (2 ^ 50) (λ a b. let arc = good.each a (omega arith) in omega (arith, arc.room, when_at_most (is_marked marks (arc_at net a).tail && not (is_marked marks (arc_at net a).head)) (arc_at net a).room)) in
-    let few : i ≤ 503000 = omega (arith, good.few_arcs) in
+    let into : count_below i (floor_into net marks) ≤ i * MAX_ROOM = count_below-at_most i (floor_into net marks) MAX_ROOM (λ a b. let arc = good.each a (omega arith) in omega (arith, arc.floor, arc.room, when_at_most (is_marked marks (arc_at net a).head && not (is_marked marks (arc_at net a).tail)) (arc_at net a).floor)) in
+    let out : count_below i (room_out net marks) ≤ i * MAX_ROOM = count_below-at_most i (room_out net marks) MAX_ROOM (λ a b. let arc = good.each a (omega arith) in omega (arith, arc.room, when_at_most (is_marked marks (arc_at net a).tail && not (is_marked marks (arc_at net a).head)) (arc_at net a).room)) in
+    let few : i ≤ MAX_ARCS = omega (arith, good.few_arcs) in
     record { low = omega (arith, ints, into, out, few, sums); high = omega (arith, ints, into, out, few, sums) }
 
 -- one arc more

@@ -12,7 +12,7 @@ use Rattle.flow_solver.specs.declared.search.Reach.{Reach}
 use Rattle.flow_solver.specs.Queue.{Waits}
 use Rattle.residual_arcs.specs.Step.{end_of, step_cost, left_on}
 use Rattle.flow_solver.specs.Step.{step_reduced}
-use Rattle.flow_solver.specs.State.{IsWithin}
+use Rattle.flow_solver.specs.State.{IsWithin, most_cost}
 use Rattle.flow_solver.specs.Search.{unreached, distance_at, reach_at, is_settled, IsReach, IsRelaxedFrom, IsTree, IsSearchOf}
 
 -- a step with room has no negative reduced cost
@@ -23,7 +23,7 @@ step_not_negative state a false a_in room =
     omega (arith, ints, h)
 
 -- a step costs no more than the greatest cost
-pub step_cost_within : (nodes : ℕ) (arc : Arc) (forward : Bool) → IsArc nodes arc → IsWithin 8000000000 (step_cost arc forward)
+pub step_cost_within : (nodes : ℕ) (arc : Arc) (forward : Bool) → IsArc nodes arc → IsWithin most_cost (step_cost arc forward)
 step_cost_within nodes arc true good = record { low = omega (arith, ints, good.cost_low); high = omega (arith, ints, good.cost_high) }
 step_cost_within nodes arc false good = record { low = omega (arith, ints, good.cost_high); high = omega (arith, ints, good.cost_low) }
 

@@ -13,7 +13,7 @@ use Rattle.flow_solver.specs.declared.search.Reach.{Reach}
 use Rattle.flow_solver.specs.Queue.{Waits}
 use Rattle.residual_arcs.specs.Step.{start_of, end_of, step_cost}
 use Rattle.flow_solver.specs.Step.{step_reduced}
-use Rattle.flow_solver.specs.State.{excess_at}
+use Rattle.flow_solver.specs.State.{excess_at, most_cost}
 use Rattle.flow_solver.specs.Search.{unreached, distance_at, reach_at, no_reach, is_settled, height_at, IsReach, IsRelaxedFrom, IsTree, IsSearchOf}
 use Rattle.residual_arcs.proofs.Amounts.{count_below-change, when_at_most}
 use Rattle.residual_arcs.proofs.Steps.{end_among}
@@ -123,7 +123,7 @@ module _ (state : State) (source : ℕ) (tree : List Reach) (distances : List �
       ]
 
   -- the new node is near each settled one
-  near_new : (u : ℕ) → is_settled settled u ≡ true → (height_at state distances u ≤ℤ (height_at state distances v +ℤ pos (8000000000 * length tree))) × (height_at state distances v ≤ℤ (height_at state distances u +ℤ pos (8000000000 * length tree)))
+  near_new : (u : ℕ) → is_settled settled u ≡ true → (height_at state distances u ≤ℤ (height_at state distances v +ℤ pos (most_cost * length tree))) × (height_at state distances v ≤ℤ (height_at state distances u +ℤ pos (most_cost * length tree)))
   near_new u s =
       let p : ℕ = (reach_at tree r.from).node in
       let p_settled = is_tree.are_settled r.from reached.from in

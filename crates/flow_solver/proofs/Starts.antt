@@ -7,6 +7,7 @@ use Rattle.std.proofs.lemmas.List.{get_or_past, get_or_push, get_or_append_left}
 use Rattle.match_rules.specs.Sums.{count_below, when}
 use Rattle.bounded_network.proofs.Sums.{count_below-at_most}
 use Rattle.bounded_network.specs.Network.{NetworkValue, IsNetwork, arc_at, reduced_cost}
+use Rattle.bounded_network.specs.declared.network.TheConstants.{MAX_ROOM, MAX_ARCS}
 use Rattle.flow_solver.specs.State.{IsWithin, IsShifted, excess_at, Suits}
 use Rattle.residual_arcs.proofs.Amounts.{when_at_most}
 
@@ -16,12 +17,12 @@ pub record AreExcessesTo (net : NetworkValue) (flow : List ℕ) (i : ℕ) (exces
   pub each : (v : ℕ) → v < net.nodes → excess_at excess v ≡ pos (count_below i (λ a. when ((arc_at net a).head == v) (slice_index flow a))) -ℤ pos (count_below i (λ a. when ((arc_at net a).tail == v) (slice_index flow a)))
 
 -- they are small
-pub AreExcessesTo-within : (net : NetworkValue) (flow : List ℕ) (i : ℕ) (excess : List ℤ) → IsNetwork net → i ≤ length net.arcs → ((a : ℕ) → a < length net.arcs → slice_index flow a ≤ 2 ^ 50) → AreExcessesTo net flow i excess → (v : ℕ) → IsWithin (2 ^ 100) (excess_at excess v)
+pub AreExcessesTo-within : (net : NetworkValue) (flow : List ℕ) (i : ℕ) (excess : List ℤ) → IsNetwork net → i ≤ length net.arcs → ((a : ℕ) → a < length net.arcs → slice_index flow a ≤ MAX_ROOM) → AreExcessesTo net flow i excess → (v : ℕ) → IsWithin (2 ^ 100) (excess_at excess v)
 AreExcessesTo-within net flow i excess good i_in most sums v = elim (cases_lt v net.nodes) [
   | inl below ↦
-      let into : count_below i (λ a. when ((arc_at net a).head == v) (slice_index flow a)) ≤ i * 2 ^ 50 = count_below-at_most i (λ a. when ((arc_at net a).head == v) (slice_index flow a)) (2 ^ 50) (λ a b. omega (arith, most a (omega arith), when_at_most ((arc_at net a).head == v) (slice_index flow a))) in
-      let out : count_below i (λ a. when ((arc_at net a).tail == v) (slice_index flow a)) ≤ i * 2 ^ 50 = count_below-at_most i (λ a. when ((arc_at net a).tail == v) (slice_index flow a)) (2 ^ 50) (λ a b. omega (arith, most a (omega arith), when_at_most ((arc_at net a).tail == v) (slice_index flow a))) in
-      let few : i ≤ 503000 = omega (arith, good.few_arcs) in
+      let into : count_below i (λ a. when ((arc_at net a).head == v) (slice_index flow a)) ≤ i * MAX_ROOM = count_below-at_most i (λ a. when ((arc_at net a).head == v) (slice_index flow a)) MAX_ROOM (λ a b. omega (arith, most a (omega arith), when_at_most ((arc_at net a).head == v) (slice_index flow a))) in
+      let out : count_below i (λ a. when ((arc_at net a).tail == v) (slice_index flow a)) ≤ i * MAX_ROOM = count_below-at_most i (λ a. when ((arc_at net a).tail == v) (slice_index flow a)) MAX_ROOM (λ a b. omega (arith, most a (omega arith), when_at_most ((arc_at net a).tail == v) (slice_index flow a))) in
+      let few : i ≤ MAX_ARCS = omega (arith, good.few_arcs) in
       rw (sums.each v below) record { low = omega (arith, ints, into, out, few); high = omega (arith, ints, into, out, few) }
   | inr above ↦
       let past : excess_at excess v ≡ pos 0 = get_or_past excess v (pos 0) (omega (arith, sums.long)) in

@@ -7,6 +7,7 @@ use Rattle.std.proofs.lemmas.List.{length-set, get_or_past}
 use Rattle.match_rules.specs.Sums.{when}
 use Rattle.bounded_network.specs.Network.{NetworkValue, IsNetwork, entering, leaving, arc_at, reduced_cost}
 use Rattle.bounded_network.proofs.Sums.{count_below-at_most}
+use Rattle.bounded_network.specs.declared.network.TheConstants.{MAX_ROOM, MAX_ARCS}
 use Rattle.residual_arcs.proofs.Amounts.{amount-set, when-+, when_at_most}
 use Rattle.residual_arcs.specs.Step.{start_of, end_of, left_on, carried}
 use Rattle.flow_solver.specs.Step.{step_reduced}
@@ -17,10 +18,10 @@ pub excess_within : (net : NetworkValue) (flow : List ℕ) (excess potentials : 
 excess_within net flow excess potentials good state v = elim (cases_lt v net.nodes) [
   | inl below ↦
       let m : ℕ = length net.arcs in
-      let most : (a : ℕ) → a < m → slice_index flow a ≤ 2 ^ 50 = λ a b. omega (arith, state.rooms a b, (good.each a b).room) in
-      let into : entering net flow v ≤ m * 2 ^ 50 = count_below-at_most m (λ a. when ((arc_at net a).head == v) (slice_index flow a)) (2 ^ 50) (λ a b. omega (arith, most a b, when_at_most ((arc_at net a).head == v) (slice_index flow a))) in
-      let out : leaving net flow v ≤ m * 2 ^ 50 = count_below-at_most m (λ a. when ((arc_at net a).tail == v) (slice_index flow a)) (2 ^ 50) (λ a b. omega (arith, most a b, when_at_most ((arc_at net a).tail == v) (slice_index flow a))) in
-      let few : m ≤ 503000 = good.few_arcs in
+      let most : (a : ℕ) → a < m → slice_index flow a ≤ MAX_ROOM = λ a b. omega (arith, state.rooms a b, (good.each a b).room) in
+      let into : entering net flow v ≤ m * MAX_ROOM = count_below-at_most m (λ a. when ((arc_at net a).head == v) (slice_index flow a)) MAX_ROOM (λ a b. omega (arith, most a b, when_at_most ((arc_at net a).head == v) (slice_index flow a))) in
+      let out : leaving net flow v ≤ m * MAX_ROOM = count_below-at_most m (λ a. when ((arc_at net a).tail == v) (slice_index flow a)) MAX_ROOM (λ a b. omega (arith, most a b, when_at_most ((arc_at net a).tail == v) (slice_index flow a))) in
+      let few : m ≤ MAX_ARCS = good.few_arcs in
       rw (state.exact v below) record { low = omega (arith, ints, into, out, few); high = omega (arith, ints, into, out, few) }
   | inr above ↦
       let past : excess_at excess v ≡ pos 0 = get_or_past excess v (pos 0) (omega (arith, state.excess_long)) in

@@ -9,7 +9,7 @@ use Rattle.flow_solver.specs.declared.state.State.{State}
 use Rattle.flow_solver.specs.declared.search.Reach.{Reach}
 use Rattle.residual_arcs.specs.Step.{start_of, end_of, left_on}
 use Rattle.flow_solver.specs.Step.{step_reduced}
-use Rattle.flow_solver.specs.State.{IsWithin, IsState, AreCalm, AreUpdated, excess_at}
+use Rattle.flow_solver.specs.State.{IsWithin, IsState, AreCalm, AreUpdated, excess_at, most_cost}
 use Rattle.flow_solver.specs.Search.{distance_at, reach_at, is_settled, IsSearchOf}
 use Rattle.flow_solver.specs.Path.{IsPath}
 use Rattle.flow_solver.proofs.Searches.{step_not_negative, settled_apart}
@@ -59,7 +59,7 @@ module _ (state : State) (source node : ℕ) (tree reaches : List Reach) (distan
     may_fall = λ a b more. let h = not_negative_after a false b (omega arith) in omega (arith, ints, h);
   }
 
-  bounded_at : (v : ℕ) → v < state.network.now.nodes → IsWithin (8000000000 * state.network.now.nodes) (potential_at potentials v)
+  bounded_at : (v : ℕ) → v < state.network.now.nodes → IsWithin (most_cost * state.network.now.nodes) (potential_at potentials v)
   bounded_at v b = elim (cases_lt (distance_at distances v) (distance_at distances node)) [
     | inl near ↦
         let s = (nearer_settled v b near).0 in

@@ -4,7 +4,7 @@ use Rattle.bounded_network.specs.Network.{NetworkValue, potential_at}
 use Rattle.residual_arcs.specs.declared.links.Links.{Links}
 use Rattle.flow_solver.specs.declared.coarse.Coarse.{Coarse}
 use Rattle.flow_solver.specs.declared.global_update.Ranks.{Ranks}
-use Rattle.flow_solver.specs.State.{IsWithin}
+use Rattle.flow_solver.specs.State.{IsWithin, most_cost}
 
 -- what is left and a twin for each link, an excess, a small potential and a next link for each node, and nodes that are active
 pub record IsCoarse (net : NetworkValue) (links : Links) (coarse : Coarse) : Type 0 where
@@ -12,7 +12,7 @@ pub record IsCoarse (net : NetworkValue) (links : Links) (coarse : Coarse) : Typ
   pub twins_long : length coarse.twins.items ≡ length links.all.items
   pub excess_long : length coarse.excess.items ≡ net.nodes
   pub potentials_long : length coarse.potentials.items ≡ net.nodes
-  pub small : (v : ℕ) → IsWithin 8000000000 (potential_at coarse.potentials.items v)
+  pub small : (v : ℕ) → IsWithin most_cost (potential_at coarse.potentials.items v)
   pub next_long : length coarse.next.items ≡ net.nodes + 1
   pub active : All (λ v. v < net.nodes) coarse.active.items
 

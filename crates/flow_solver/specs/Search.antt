@@ -8,7 +8,7 @@ use Rattle.flow_solver.specs.declared.state.State.{State}
 use Rattle.flow_solver.specs.declared.search.Reach.{Reach}
 use Rattle.flow_solver.specs.declared.search.Search.{Search}
 use Rattle.flow_solver.specs.Queue.{Waits}
-use Rattle.flow_solver.specs.State.{excess_at}
+use Rattle.flow_solver.specs.State.{excess_at, most_cost}
 use Rattle.residual_arcs.specs.Closed.{AreClosed}
 use Rattle.residual_arcs.specs.Step.{start_of, end_of, left_on}
 use Rattle.flow_solver.specs.Step.{step_reduced}
@@ -70,7 +70,7 @@ pub record IsTree (state : State) (source : ℕ) (tree : List Reach) (distances 
   pub separate : (i j : ℕ) → i < j → j < length tree → (reach_at tree i).node ≢ (reach_at tree j).node
   pub reaches : (i : ℕ) → 0 < i → i < length tree → IsReach state tree distances i (reach_at tree i) (reach_at tree i).node
   pub apart : (i j : ℕ) → 0 < i → i < j → j < length tree → (reach_at tree i).step.arc ≢ (reach_at tree j).step.arc
-  pub near : (u v : ℕ) → is_settled settled u ≡ true → is_settled settled v ≡ true → height_at state distances u ≤ℤ (height_at state distances v +ℤ pos (8000000000 * (length tree - 1)))
+  pub near : (u v : ℕ) → is_settled settled u ≡ true → is_settled settled v ≡ true → height_at state distances u ≤ℤ (height_at state distances v +ℤ pos (most_cost * (length tree - 1)))
 
 -- the search after the node was settled, and before all its steps are relaxed
 pub record IsSearchOf (state : State) (source node : ℕ) (tree reaches : List Reach) (distances : List ℕ) (settled : List Bool) (waiting : List (Reverse ℕ × ℕ)) : Type 0 where

@@ -1,5 +1,6 @@
 -- The state of the solver: an amount for each arc, the excess of each node, and potentials.
 use Rattle.std.specs.Prelude.{ℕ, ◌≡◌, ◌-◌, ◌*◌, ◌<◌, ◌≤◌, ◌==◌, List, length, slice_index, slice_index_or, ℤ, pos, ◌+ℤ◌, ◌-ℤ◌, ◌≤ℤ◌, ◌<ℤ◌}
+use Rattle.match_rules.specs.Rules.{most_score}
 use Rattle.match_rules.specs.Sums.{when}
 use Rattle.bounded_network.specs.Network.{NetworkValue, AreOptimal, entering, leaving, arc_at, potential_at, reduced_cost}
 use Rattle.bounded_network.specs.declared.network.Arc.{Arc}
@@ -9,13 +10,17 @@ pub record IsWithin (bound : ℕ) (z : ℤ) : Type 0 where
   pub low : pos 0 ≤ℤ (z +ℤ pos bound)
   pub high : z ≤ℤ pos bound
 
+-- the greatest magnitude of a cost: that of a score
+abbrev pub most_cost : ℕ
+most_cost = most_score
+
 -- the excess of a node
 abbrev pub excess_at : List ℤ → ℕ → ℤ
 excess_at excess v = slice_index_or excess v (pos 0)
 
 -- each potential is of magnitude at most the greatest cost times the nodes
 abbrev pub AreBounded : NetworkValue → List ℤ → Type 0
-AreBounded net potentials = (v : ℕ) → v < net.nodes → IsWithin (8000000000 * net.nodes) (potential_at potentials v)
+AreBounded net potentials = (v : ℕ) → v < net.nodes → IsWithin (most_cost * net.nodes) (potential_at potentials v)
 
 -- each amount is within its bounds, each excess is what enters less what leaves, and the potentials are optimal: no step that
 -- can carry more has a negative reduced cost
@@ -32,7 +37,7 @@ pub record IsState (net : NetworkValue) (flow : List ℕ) (excess : List ℤ) (p
 -- the nodes with a deficit have small potentials
 abbrev pub AreCalm : NetworkValue → List ℤ → List ℤ → Type 0
 AreCalm net excess potentials =
-    (v : ℕ) → v < net.nodes → excess_at excess v <ℤ pos 0 → IsWithin 8000000000 (potential_at potentials v)
+    (v : ℕ) → v < net.nodes → excess_at excess v <ℤ pos 0 → IsWithin most_cost (potential_at potentials v)
 
 -- the amount went from one node to another
 abbrev pub IsShifted : List ℤ → List ℤ → ℕ → ℕ → ℕ → Type 0

@@ -8,7 +8,7 @@ ghost use Rattle.bounded_network.specs.Network.{potential_at};
 ghost use Rattle.flow_solver.specs.Coarse.{IsCoarse};
 ghost use Rattle.flow_solver.specs.Costs.{IsGreatestCost};
 ghost use Rattle.residual_arcs.specs.Links.{AreLinks};
-ghost use Rattle.flow_solver.specs.State.{IsWithin};
+ghost use Rattle.flow_solver.specs.State.{IsWithin, most_cost};
 
 use crate::links::link_of;
 use crate::twins::twins_of;
@@ -82,7 +82,7 @@ pub fn coarse_at(
 ) -> Result<Coarse, AllocError>
     requires links { AreLinks net.now links.now }
     requires long { length potentials.items ≡ net.now.nodes }
-    requires small { (v : ℕ) → IsWithin 8000000000 (potential_at potentials.items v) }
+    requires small { (v : ℕ) → IsWithin most_cost (potential_at potentials.items v) }
     ensures { IfOk result (λ coarse. IsCoarse net.now links.now coarse) }
 {
     let _nodes = net.nodes();
@@ -302,7 +302,7 @@ fn best_before(net: &Network, links: &Links, coarse: &Coarse, node: u32, best: i
 
 /// The best potential less epsilon, within the greatest cost.
 pub fn relabelled(best: i64, epsilon: i64) -> i64
-    ensures { IsWithin 8000000000 result }
+    ensures { IsWithin most_cost result }
 {
     let wanted = best.saturating_sub(epsilon);
     if wanted < -MAX_COST {
@@ -319,7 +319,7 @@ pub fn set_potential(net: &Network, links: &Links, coarse: &mut Coarse, node: u3
     requires coarse { IsCoarse net.now links.now coarse.old }
     requires links { AreLinks net.now links.now }
     requires node_in { node < net.now.nodes }
-    requires small { IsWithin 8000000000 value }
+    requires small { IsWithin most_cost value }
     ensures { IsCoarse net.now links.now coarse.new }
 {
     coarse.potentials[node as usize] = value;

@@ -3,6 +3,7 @@ ghost use Rattle.std.specs.Prelude.{◌≡◌, ◌^◌, ◌≤◌, ◌&&◌, not
 ghost use Rattle.std.specs.Bool.{OnTrue};
 ghost use Rattle.match_rules.specs.Sums.{when};
 ghost use Rattle.bounded_network.specs.Network.{IsNetwork, AreViolated, arc_at, is_marked};
+ghost use Rattle.bounded_network.specs.declared.network.TheConstants.{MAX_ROOM};
 ghost use Rattle.flow_solver.specs.State.{IsWithin};
 
 use bounded_network::{Arc, Network};
@@ -36,8 +37,8 @@ pub fn low_nodes(alloc: Global, potentials: &[i64]) -> Result<Vec<bool>, AllocEr
 // The balance with the floor of the arc added if it enters the marked nodes, and its room taken away if it leaves them.
 fn with_arc(balance: i128, arc: Arc, tail: bool, head: bool) -> i128
     requires small { IsWithin (2 ^ 100) balance }
-    requires floor { arc.floor ≤ 2 ^ 50 }
-    requires room { arc.room ≤ 2 ^ 50 }
+    requires floor { arc.floor ≤ MAX_ROOM }
+    requires room { arc.room ≤ MAX_ROOM }
     ensures { result ≡ (balance +ℤ pos (when (head && not tail) arc.floor)) -ℤ pos (when (tail && not head) arc.room) }
 {
     if head && !tail {

@@ -6,7 +6,7 @@
 ghost use Rattle.std.specs.Prelude.{◌≡◌, ◌<◌, ◌≤◌, length, IfOk, OnOk, IfSome, All};
 ghost use Rattle.flow_solver.specs.Coarse.{IsCoarse, AreRanks};
 ghost use Rattle.residual_arcs.specs.Links.{AreLinks};
-ghost use Rattle.flow_solver.specs.State.{IsWithin};
+ghost use Rattle.flow_solver.specs.State.{IsWithin, most_cost};
 
 use crate::coarse::{Coarse, relabelled, set_potential};
 use crate::links::link_of;
@@ -205,7 +205,7 @@ fn ranks_of(
 // A node's potential once it has fallen by its rank, or as far as the search came. Where some excesses can't find any way, what
 // wasn't reached falls to the bottom, so that those rest there.
 fn fallen(potential: i64, epsilon: i64, ranks: &Ranks, rank: u32) -> i64
-    ensures { IsWithin 8000000000 result }
+    ensures { IsWithin most_cost result }
 {
     if rank == UNRANKED && ranks.missing > 0 {
         return -MAX_COST;

@@ -2,7 +2,7 @@
 ghost use Rattle.std.specs.Prelude.{◌≡◌, ◌^◌, ◌<◌, ◌↔◌, length, ℤ, pos, ◌+ℤ◌, ◌-ℤ◌, IsTrue};
 ghost use Rattle.bounded_network.specs.Network.{arc_at};
 ghost use Rattle.flow_solver.specs.Calm.{IsCalm};
-ghost use Rattle.flow_solver.specs.State.{IsWithin};
+ghost use Rattle.flow_solver.specs.State.{IsWithin, most_cost};
 ghost use Rattle.flow_solver.specs.Step.{step_reduced};
 
 use crate::search::amount_of;
@@ -11,7 +11,7 @@ use residual_arcs::{Step, arc_of, cost, end, start};
 
 /// Whether a step at the cost, between nodes at the potentials, has reduced cost 0.
 pub fn cancels(cost: i64, from: i64, to: i64) -> bool
-    requires cost_small { IsWithin 8000000000 cost }
+    requires cost_small { IsWithin most_cost cost }
     requires from_small { IsWithin (2 ^ 52) from }
     requires to_small { IsWithin (2 ^ 52) to }
     ensures { IsTrue result ↔ ((cost +ℤ from) -ℤ to ≡ pos 0) }

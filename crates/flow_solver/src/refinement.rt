@@ -5,7 +5,7 @@
 ghost use Rattle.std.specs.Prelude.{◌≡◌, ◌<◌, length, IfOk, OnOk, All};
 ghost use Rattle.flow_solver.specs.Coarse.{IsCoarse};
 ghost use Rattle.residual_arcs.specs.Links.{AreLinks};
-ghost use Rattle.flow_solver.specs.State.{IsWithin};
+ghost use Rattle.flow_solver.specs.State.{IsWithin, most_cost};
 
 use crate::coarse::{Coarse, relabelled, set_potential};
 use crate::links::link_of;
@@ -28,7 +28,7 @@ fn lower_to(
     requires coarse { IsCoarse net.now links.now coarse.old }
     requires links { AreLinks net.now links.now }
     requires node_in { node < net.now.nodes }
-    requires small { IsWithin 8000000000 value }
+    requires small { IsWithin most_cost value }
     ensures { OnOk result (IsCoarse net.now links.now coarse.new) }
 {
     set_potential(net, links, coarse, node, value);

@@ -6,7 +6,7 @@ ghost use Rattle.std.specs.Prelude.{◌≡◌, length, ℕ, IfOk, OnOk};
 ghost use Rattle.bounded_network.specs.Network.{potential_at};
 ghost use Rattle.flow_solver.specs.Coarse.{IsCoarse};
 ghost use Rattle.residual_arcs.specs.Links.{AreLinks};
-ghost use Rattle.flow_solver.specs.State.{IsWithin};
+ghost use Rattle.flow_solver.specs.State.{IsWithin, most_cost};
 
 use crate::coarse::{Coarse, begin_phase, coarse_at, discharge, greatest_cost};
 use crate::global_update::update_globally;
@@ -100,7 +100,7 @@ pub fn coarse_potentials(
 ) -> Result<Vec<i64>, AllocError>
     requires links { AreLinks net.now links.now }
     ensures long { IfOk result (λ potentials. length potentials.items ≡ net.now.nodes) }
-    ensures small { IfOk result (λ potentials. (v : ℕ) → IsWithin 8000000000 (potential_at potentials.items v)) }
+    ensures small { IfOk result (λ potentials. (v : ℕ) → IsWithin most_cost (potential_at potentials.items v)) }
 {
     let unit = unit_of(net);
     let mut coarse = all_phases(alloc, net, links, unit)?;

@@ -5,7 +5,7 @@ ghost use Rattle.std.specs.BinaryHeap.{heap_items, heap_len};
 ghost use Rattle.bounded_network.specs.Network.{NetworkValue, IsNetwork, arc_at, potential_at};
 ghost use Rattle.residual_arcs.specs.Links.{AreLinks, IsLink, start_at};
 ghost use Rattle.flow_solver.specs.Queue.{Waits};
-ghost use Rattle.flow_solver.specs.State.{IsWithin, excess_at};
+ghost use Rattle.flow_solver.specs.State.{IsWithin, excess_at, most_cost};
 ghost use Rattle.residual_arcs.specs.Step.{start_of, end_of, step_cost, left_on};
 ghost use Rattle.flow_solver.specs.Step.{step_reduced};
 ghost use Rattle.flow_solver.specs.Search.{IsSearch, IsRelaxed, IsRelaxedFrom, Relaxes, IsReach, SameTree, IsFound, IsClosed, distance_at, reach_at, is_settled};
@@ -41,7 +41,7 @@ pub struct Search {
 
 // The reduced cost of a step from its cost and the potentials at its ends.
 fn reduced(cost: i64, from: i64, to: i64) -> i64
-    requires cost_small { IsWithin 8000000000 cost }
+    requires cost_small { IsWithin most_cost cost }
     requires from_small { IsWithin (2 ^ 52) from }
     requires to_small { IsWithin (2 ^ 52) to }
     ensures { result ≡ (cost +ℤ from) -ℤ to }

@@ -1,8 +1,9 @@
 // The state that the solver starts from.
-ghost use Rattle.std.specs.Prelude.{◌≡◌, ◌+◌, ◌*◌, ◌^◌, ◌<◌, ◌≤◌, length, ℕ, ℤ, pos, negsuc, ◌≤ℤ◌, ◌+ℤ◌, ◌-ℤ◌, slice_index, IfOk};
+ghost use Rattle.std.specs.Prelude.{◌≡◌, ◌+◌, ◌*◌, ◌^◌, ◌<◌, ◌≤◌, length, ℕ, ℤ, ◌≤ℤ◌, ◌+ℤ◌, ◌-ℤ◌, slice_index, IfOk, neg_ℤ};
 ghost use Rattle.bounded_network.specs.Network.{IsArc, IsNetwork, arc_at, potential_at, reduced_cost};
+ghost use Rattle.bounded_network.specs.declared.network.TheConstants.{MAX_COST};
 ghost use Rattle.flow_solver.specs.Calm.{IsCalm};
-ghost use Rattle.flow_solver.specs.State.{IsWithin, Suits, AllSuit, AreExcesses};
+ghost use Rattle.flow_solver.specs.State.{IsWithin, Suits, AllSuit, AreExcesses, most_cost};
 
 use crate::state::{State, shift};
 use bounded_network::{Arc, Network};
@@ -12,10 +13,10 @@ use std::alloc::{AllocError, Global};
 // The room where the reduced cost is negative, and else the floor.
 fn first_amount(arc: Arc, tail: i64, head: i64) -> u64
     requires bounds { arc.floor ≤ arc.room }
-    requires cost_low { negsuc 7999999999 ≤ℤ arc.cost }
-    requires cost_high { arc.cost ≤ℤ pos 8000000000 }
-    requires tail_small { IsWithin 8000000000 tail }
-    requires head_small { IsWithin 8000000000 head }
+    requires cost_low { neg_ℤ MAX_COST ≤ℤ arc.cost }
+    requires cost_high { arc.cost ≤ℤ MAX_COST }
+    requires tail_small { IsWithin most_cost tail }
+    requires head_small { IsWithin most_cost head }
     ensures { Suits arc ((arc.cost +ℤ tail) -ℤ head) result }
 {
     if arc.cost + tail - head < 0 {
@@ -29,7 +30,7 @@ fn first_amount(arc: Arc, tail: i64, head: i64) -> u64
 fn amount_from(net: &Network, potentials: &[i64], place: u32) -> u64
     requires place_in { place < length net.now.arcs }
     requires long { length potentials.now ≡ net.now.nodes }
-    requires small { (v : ℕ) → v < net.now.nodes → IsWithin 8000000000 (potential_at potentials.now v) }
+    requires small { (v : ℕ) → v < net.now.nodes → IsWithin most_cost (potential_at potentials.now v) }
     ensures { Suits (arc_at net.now place) (reduced_cost net.now potentials.now place) result }
 {
     let arc = arc_of(net, place);
@@ -43,7 +44,7 @@ fn amount_from(net: &Network, potentials: &[i64], place: u32) -> u64
 // Amounts at which no arc has a negative reduced cost that it could follow.
 fn first_flow(alloc: Global, net: &Network, potentials: &[i64]) -> Result<Vec<u64>, AllocError>
     requires long { length potentials.now ≡ net.now.nodes }
-    requires small { (v : ℕ) → v < net.now.nodes → IsWithin 8000000000 (potential_at potentials.now v) }
+    requires small { (v : ℕ) → v < net.now.nodes → IsWithin most_cost (potential_at potentials.now v) }
     ensures { IfOk result (λ flow. AllSuit net.now flow.items potentials.now) }
 {
     let count = arc_count(net);
@@ -75,7 +76,7 @@ pub fn start_at<'a>(
     potentials: Vec<i64>,
 ) -> Result<State<'a>, AllocError>
     requires long { length potentials.items ≡ net.now.nodes }
-    requires small { (v : ℕ) → v < net.now.nodes → IsWithin 8000000000 (potential_at potentials.items v) }
+    requires small { (v : ℕ) → v < net.now.nodes → IsWithin most_cost (potential_at potentials.items v) }
     ensures network { IfOk result (λ state. state.network.now ≡ net.now) }
     ensures potentials { IfOk result (λ state. state.potentials.items ≡ potentials.items) }
     ensures calm { IfOk result IsCalm }

@@ -3,7 +3,7 @@ ghost use Rattle.std.specs.Prelude.{◌≡◌, length, ℕ};
 ghost use Rattle.std.specs.Int.{IsGcd};
 ghost use Rattle.bounded_network.specs.Network.{potential_at};
 ghost use Rattle.flow_solver.specs.Costs.{IsUnit};
-ghost use Rattle.flow_solver.specs.State.{IsWithin};
+ghost use Rattle.flow_solver.specs.State.{IsWithin, most_cost};
 
 use bounded_network::{MAX_COST, Network};
 use residual_arcs::{arc_count, arc_of};
@@ -38,7 +38,7 @@ pub fn unit_of(net: &Network) -> u64
 
 // The multiple of the unit, counted from the least potential, that is nearest.
 fn rounded(potential: i64, unit: u64) -> i64
-    ensures { IsWithin 8000000000 result }
+    ensures { IsWithin most_cost result }
 {
     let unit = unit.max(1);
     let above = potential.saturating_add(MAX_COST).max(0) as u64;
@@ -48,9 +48,9 @@ fn rounded(potential: i64, unit: u64) -> i64
 
 /// Rounds all potentials to the unit.
 pub fn round_all(potentials: &mut Vec<i64>, unit: u64)
-    requires small { (v : ℕ) → IsWithin 8000000000 (potential_at potentials.old.items v) }
+    requires small { (v : ℕ) → IsWithin most_cost (potential_at potentials.old.items v) }
     ensures long { length potentials.new.items ≡ length potentials.old.items }
-    ensures small { (v : ℕ) → IsWithin 8000000000 (potential_at potentials.new.items v) }
+    ensures small { (v : ℕ) → IsWithin most_cost (potential_at potentials.new.items v) }
 {
     for node in 0..potentials.len() {
         let value = rounded(potentials[node], unit);

@@ -14,6 +14,8 @@
 //! - `answer NAME` runs the words and keeps what they write as a text. `show NAME WORD` prints each line of a text that begins
 //!   with the word, with the lines of numbers behind it. `value TEXT` prints the value of a text in ten-thousandths, or its
 //!   fault.
+//! - `here` has the words run over the real files of the folder that the program runs in: `data/` here, which has those of
+//!   `examples/workshop`. Its rules were made by `bench/rules.py`.
 #![tactic(auto)]
 
 mod answers;

@@ -5,7 +5,7 @@ use crate::edits::make_edits;
 use crate::parts::{
     begin, double, drop_byte, push_each, push_escapes, push_line, put_text, text_of,
 };
-use crate::words::{Failing, run_words};
+use crate::words::{Failing, run_words, run_words_here};
 use anyhow::{Context, bail};
 use edge_io::MemoryFile;
 use std::alloc::Global;
@@ -17,6 +17,8 @@ pub(crate) struct Session {
     texts: Vec<MemoryFile>,
     parts: Vec<MemoryFile>,
     words: Vec<String>,
+    // Whether the words run over the files of the folder that the program runs in.
+    is_here: bool,
     failing: Failing,
 }
 
@@ -27,6 +29,7 @@ impl Session {
             texts: Vec::new(alloc),
             parts: Vec::new(alloc),
             words: Vec::new(alloc),
+            is_here: false,
             failing: Failing::new(alloc),
         }
     }
@@ -49,6 +52,9 @@ impl Session {
         let parts = self.taken(alloc);
         let words = mem::replace(&mut self.words, Vec::new(alloc));
         let failing = mem::replace(&mut self.failing, Failing::new(alloc));
+        if mem::replace(&mut self.is_here, false) {
+            return run_words_here(rt, words.as_slice(), parts);
+        }
         run_words(rt, words.as_slice(), parts, failing)
     }
 
@@ -100,6 +106,7 @@ impl Session {
             "failing-read" => self.failing.reads.push(rest.parse::<u64>()?)?,
             "failing-file" => self.failing.files.push(rest.parse::<u64>()?)?,
             "failing-write" => self.failing.writes.push(rest.parse::<u64>()?)?,
+            "here" => self.is_here = true,
             "keep" => self.keep(alloc)?,
             "run" => self.run(rt)?,
             "answer" => self.answer(rt, rest)?,

@@ -1,6 +1,6 @@
 // The words of a case, with its input and its folder.
 
-use edge_io::{MemoryFile, MemoryFolder, MemorySink, MemorySource};
+use edge_io::{DirFolder, MemoryFile, MemoryFolder, MemorySink, MemorySource};
 use matcher_cli::matcher;
 use std::alloc::{AllocError, Global};
 
@@ -86,4 +86,25 @@ pub(crate) fn run_words(
     let given = given_in(rt.alloc(), parts)?;
     let mut outside = outside_of(rt.alloc(), given, failing)?;
     written(rt, words, &mut outside)
+}
+
+/// Runs the words over the files of the folder that the program runs in; the only part is the input, where there is one.
+pub(crate) fn run_words_here(
+    rt: &HostRuntime,
+    words: &[String],
+    parts: Vec<MemoryFile>,
+) -> anyhow::Result<Vec<u8>> {
+    let alloc = rt.alloc();
+    let given = given_in(alloc, parts)?;
+    let mut source = MemorySource::new(given.input, Vec::new(alloc))?;
+    let mut sink = MemorySink::new(alloc, Vec::new(alloc))?;
+    let status = matcher(
+        alloc,
+        words,
+        &mut source,
+        &mut sink,
+        &mut DirFolder::new(rt),
+    );
+    println!(rt; "status {}", status.code())?;
+    Ok(Vec::from_slice(alloc, sink.bytes())?)
 }

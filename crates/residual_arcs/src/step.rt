@@ -1,7 +1,8 @@
 // Steps over arcs.
-ghost use Rattle.std.specs.Prelude.{◌≡◌, ◌<◌, ◌≤◌, length, ℤ, pos, negsuc, ◌≤ℤ◌, ℕ, ◌^◌};
+ghost use Rattle.std.specs.Prelude.{◌≡◌, ◌<◌, ◌≤◌, length, ℤ, ◌≤ℤ◌, ℕ, ◌^◌, neg_ℤ};
 ghost use Rattle.residual_arcs.specs.Step.{start_of, end_of, step_cost, left_on, carried};
 ghost use Rattle.bounded_network.specs.Network.{arc_at, IsNetwork, IsArc};
+ghost use Rattle.bounded_network.specs.declared.network.TheConstants.{MAX_COST};
 
 use bounded_network::{Arc, Network};
 
@@ -60,8 +61,8 @@ pub fn left(arc: Arc, amount: u64, forward: bool) -> u64
 
 /// What a unit costs that a step over the arc carries: the arc's cost, which a step back gives back.
 pub fn cost(arc: Arc, forward: bool) -> i64
-    requires low { negsuc 7999999999 ≤ℤ arc.cost }
-    requires high { arc.cost ≤ℤ pos 8000000000 }
+    requires low { neg_ℤ MAX_COST ≤ℤ arc.cost }
+    requires high { arc.cost ≤ℤ MAX_COST }
     ensures { result ≡ step_cost arc forward }
 {
     if forward { arc.cost } else { -arc.cost }

@@ -4,7 +4,7 @@ use Rattle.std.specs.Int.{w64}
 use Rattle.std.proofs.lemmas.Int.{ints, to_z-of_z}
 use Rattle.std.proofs.lemmas.List.{get_or_read}
 use Rattle.bounded_network.specs.Network.{potential_at}
-use Rattle.flow_solver.specs.State.{IsWithin}
+use Rattle.flow_solver.specs.State.{IsWithin, most_cost}
 use Rattle.flow_solver.proofs.Updates.{within_fits}
 use Rattle.flow_solver.proofs.Bounds.{potential_within}
 use Rattle.flow_solver.proofs.Following.{within_link, link_reduced}
@@ -15,7 +15,7 @@ pub index-to-requires : goal.index-to-requires
 index-to-requires c =
     omega (arith, (within_link c.args.state.now.network.now c.args.link c.args.state.now.good c.requires.link).to, c.args.state.now.kept.potentials_long, c.args.state.now.potentials.ok.0)
 
-cost_fits : (cost : ℤ) → IsWithin 8000000000 cost → FitsSigned w64 cost
+cost_fits : (cost : ℤ) → IsWithin most_cost cost → FitsSigned w64 cost
 cost_fits cost small = within_fits cost record { low = omega (arith, ints, small.low); high = omega (arith, ints, small.high) }
 
 from_is : (c : After-index-to) → c.index-from.result.now ≡ potential_at c.args.state.now.potentials.items c.args.search.now.node
