@@ -1,5 +1,6 @@
 pub mod AmountLists
 pub mod DueLaws
+pub mod DueLists
 pub mod FlowSteps
 pub mod GoodSteps
 pub mod LineLaws

@@ -52,7 +52,7 @@ next-standing rules left rest s next some = record {
 
 -- they may stand until the first of them is due
 pub weight-standing : (rules : RulesValue) (left : ℕ) (rest : List ℕ) (s : Standing) (ticket : ℕ) → IsNextStanding rules left rest s → 1 ≤ left → left ≤ rules.tickets
-    → IsLeastDue rules.tickets s.dues.items (length s.dues.items) ticket → IsWeight left (flow_of rules rest) s.counts.items (length (flow_of rules rest)) (ticket - (rules.tickets - left))
+    → IsLeastDue rules.tickets s.dues.items ticket → IsWeight left (flow_of rules rest) s.counts.items (length (flow_of rules rest)) (ticket - (rules.tickets - left))
 weight-standing rules left rest s ticket next some fewer least =
     let all : ℕ = rules.tickets in
     let size : length s.dues.items ≡ length (flow_of rules rest) = next.stands.long ∙ sym (flow-size rules left rest s next.stands) in
@@ -73,11 +73,20 @@ weight-standing rules left rest s ticket next some fewer least =
       ];
     }
 
+-- and none of them is due before
+pub due-after : (rules : RulesValue) (left : ℕ) (rest : List ℕ) (s : Standing) → IsNextStanding rules left rest s → 1 ≤ left → left ≤ rules.tickets
+    → (a : ℕ) → a < length s.dues.items → rules.tickets - left < slice_index s.dues.items a
+due-after rules left rest s next some fewer a lt =
+    let a_in : a < length (flow_of rules rest) = omega (arith, lt, next.stands.long, flow-size rules left rest s next.stands) in
+    let limits = (rounded-at rules left rest s next some a a_in).limits in
+    let least = limit-some left (slice_index (flow_of rules rest) a) (slice_index s.counts.items a) some in
+    omega (arith, limits, least, fewer)
+
 -- ---- tickets are given
 
 pub standing-given : (rules : RulesValue) (left : ℕ) (rest : List ℕ) (s : Standing) (weight next : ℕ) (new : List ℕ) → IsNextStanding rules left rest s → left ≤ rules.tickets
     → length rest ≡ length rules.pairs → AreLess rest (amounts_in rules s.counts.items) new weight → next + weight ≡ left
-    → IsLeastDue rules.tickets s.dues.items (length s.dues.items) (rules.tickets - left + weight) → IsStanding rules next new s
+    → IsLeastDue rules.tickets s.dues.items (rules.tickets - left + weight) → IsStanding rules next new s
 standing-given rules left rest s weight next new was fewer long less tickets least =
     let given : AreLess (flow_of rules rest) s.counts.items (flow_of rules new) weight =
     flow-less rules rest s.counts.items new weight long (was.stands.passes.only s.counts.items was.stands.circulates) less in
@@ -93,6 +102,7 @@ standing-given rules left rest s weight next new was fewer long less tickets lea
           (was.stands.lines a lt) tickets (given.each a (omega (arith, lt, size))) (omega (arith, late, tickets, fewer));
       ahead = was.stands.ahead;
       behind = was.stands.behind;
+      waiting = was.stands.waiting;
     }
 
 tight-given : (all left : ℕ) (arc : Arc) (due weight next : ℕ) → IsTight all left arc due → left ≤ all → next + weight ≡ left → (all - left + weight) ≤ due
@@ -104,7 +114,7 @@ tight-given all left arc due weight next (inr between) fewer tickets late = elim
 ]
 
 pub ready-given : (rules : RulesValue) (left : ℕ) (rest : List ℕ) (s : Standing) (weight next : ℕ) → IsNextStanding rules left rest s → left ≤ rules.tickets → next + weight ≡ left
-    → IsLeastDue rules.tickets s.dues.items (length s.dues.items) (rules.tickets - left + weight)
+    → IsLeastDue rules.tickets s.dues.items (rules.tickets - left + weight)
     → (a : ℕ) → a < length s.net.arcs → TightAt rules.tickets next s a ⊎ (slice_index s.dues.items a + next ≡ rules.tickets)
 ready-given rules left rest s weight next was fewer tickets least a lt =
     tight-given rules.tickets left (arc_at s.net a) (slice_index s.dues.items a) weight next (was.tight a lt) fewer tickets (least.within a (omega (arith, lt, was.stands.long)))
@@ -265,6 +275,7 @@ standing-held rules left rest s a stands lt last =
       lines = lines-held rules.tickets left s.net a s.counts.items s.dues.items (flow_of rules rest) lt last stands.lines;
       ahead = record { none = stands.ahead.none; long = stands.ahead.long; unplaced = stands.ahead.unplaced };
       behind = record { none = stands.behind.none; long = stands.behind.long; unplaced = stands.behind.unplaced };
+      waiting = stands.waiting;
     }
 
 -- ---- while all tickets are left

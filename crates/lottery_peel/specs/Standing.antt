@@ -1,6 +1,6 @@
 -- Counts of a next assignment that stand from piece to piece, each until the ticket at which it is due. Tickets are counted
 -- from the first piece on: those that are not left are used.
-use Rattle.std.specs.Prelude.{◌≡◌, ◌≢◌, ℕ, ◌+◌, ◌*◌, ◌<◌, ◌≤◌, ◌⊎◌, List, length, slice_index, pos}
+use Rattle.std.specs.Prelude.{◌≡◌, ◌≢◌, ℕ, ◌+◌, ◌*◌, ◌<◌, ◌≤◌, ◌⊎◌, List, [], length, slice_index, slice_index_or, Contains, pos}
 use Rattle.match_rules.specs.Rules.{RulesValue}
 use Rattle.bounded_network.specs.declared.network.Arc.{Arc}
 use Rattle.bounded_network.specs.Compile.{amounts_in, flow_of, place_count}
@@ -54,16 +54,26 @@ pub record AreFirstDues (all : ℕ) (amounts counts dues : List ℕ) : Type 0 wh
   pub long : length dues ≡ length amounts
   pub each : (a : ℕ) → a < length amounts → slice_index dues a ≡ limit all (slice_index amounts a) (slice_index counts a)
 
--- the least of the due tickets, and all tickets where there is none
-pub record IsLeastDue (all : ℕ) (dues : List ℕ) (first ticket : ℕ) : Type 0 where
+-- the least of the due tickets, and all tickets where none is before
+pub record IsLeastDue (all : ℕ) (dues : List ℕ) (ticket : ℕ) : Type 0 where
   pub most : ticket ≤ all
-  pub within : (a : ℕ) → a < first → ticket ≤ slice_index dues a
-  pub reached : (ticket ≡ all) ⊎ ((a : ℕ) × ((a < first) × (ticket ≡ slice_index dues a)))
+  pub within : (a : ℕ) → a < length dues → ticket ≤ slice_index dues a
+  pub reached : (ticket ≡ all) ⊎ ((a : ℕ) × ((a < length dues) × (ticket ≡ slice_index dues a)))
 
--- the places of the first counts that are due at the ticket, each of them and no others
-pub record AreDueArcs (dues : List ℕ) (first ticket : ℕ) (arcs : List ℕ) : Type 0 where
-  pub each : (j : ℕ) → j < length arcs → (slice_index arcs j < first) × (slice_index dues (slice_index arcs j) ≡ ticket)
-  pub whole : (a : ℕ) → a < first → slice_index dues a ≡ ticket → (j : ℕ) × ((j < length arcs) × (slice_index arcs j ≡ a))
+-- the places of the counts that are due at the ticket, each of them and no others
+pub record AreDueArcs (dues : List ℕ) (ticket : ℕ) (arcs : List ℕ) : Type 0 where
+  pub each : (j : ℕ) → j < length arcs → (slice_index arcs j < length dues) × (slice_index dues (slice_index arcs j) ≡ ticket)
+  pub whole : (a : ℕ) → a < length dues → slice_index dues a ≡ ticket → (j : ℕ) × ((j < length arcs) × (slice_index arcs j ≡ a))
+
+-- an arc is in the list of a ticket
+abbrev pub Waits : List (List ℕ) → ℕ → ℕ → Type 0
+Waits lists ticket arc = Contains (slice_index_or lists ticket []) arc
+
+-- each count that is due before all tickets waits in the list of the ticket at which it is due. It may also be left in the
+-- lists of tickets at which it was due before it was turned.
+pub record AreWaiting (all : ℕ) (dues : List ℕ) (lists : List (List ℕ)) : Type 0 where
+  pub long : length lists ≡ all
+  pub each : (a : ℕ) → a < length dues → slice_index dues a < all → Waits lists (slice_index dues a) a
 
 -- where steps were taken over arcs, their counts are due as long before all tickets as they were due after this one; the others stay
 pub record AreTurned (all ticket : ℕ) (steps : List Step) (count : ℕ) (old new : List ℕ) : Type 0 where
@@ -92,6 +102,7 @@ pub record IsStanding (rules : RulesValue) (left : ℕ) (rest : List ℕ) (stand
   pub lines : (a : ℕ) → a < length standing.net.arcs → LineAt rules.tickets left standing (flow_of rules rest) a
   pub ahead : IsBlank standing.net standing.ahead
   pub behind : IsBlank standing.net standing.behind
+  pub waiting : AreWaiting rules.tickets standing.dues.items standing.waiting
 
 -- its bounds are the rounded amounts, and no count is due
 pub record IsNextStanding (rules : RulesValue) (left : ℕ) (rest : List ℕ) (standing : Standing) : Type 0 where

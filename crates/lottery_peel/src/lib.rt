@@ -7,15 +7,17 @@
 // A piece settles an amount that was open, so there are few.
 //
 // The first assignment is a flow of the network with rounded bounds. It stands from piece to piece (`Standing`): each count has a
-// ticket at which it is due, which doesn't change while it stands. At that ticket the amount is a multiple, and the count is
-// given its other bound by a turn (`unit_turns`), after which the bounds leave no other. A turn always finds a way, since the
-// amounts that are left are balanced between the bounds times the tickets that are left. What is left of the shares is kept in rows of
-// the pairs that still have tickets (`sparse_shares`).
+// ticket at which it is due, which doesn't change while it stands, and its arc waits in the list of that ticket (`DueLists`), so that
+// no other arc is looked at. At that ticket the amount is a multiple, and the count is given its other bound by a turn
+// (`unit_turns`), after which the bounds leave no other. A turn always finds a way, since the amounts that are left are balanced
+// between the bounds times the tickets that are left. What is left of the shares is kept in rows of the pairs that still have
+// tickets (`sparse_shares`).
 //
 // `specs/Peeling.antt` has the definitions of a step and of the pieces, `specs/Standing.antt` those of the counts that stand;
 // `proofs/` has the laws of one amount, of lists, of flows, of networks and of the loop.
 #![tactic(auto)]
 
+mod due_lists;
 mod dues;
 mod examples;
 mod peeling;

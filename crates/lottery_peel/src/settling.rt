@@ -4,7 +4,7 @@ ghost use Rattle.std.specs.Prelude.{◌≡◌, ◌+◌, ◌<◌, ◌≤◌, ◌�
 ghost use Rattle.bounded_network.specs.Network.{arc_at};
 ghost use Rattle.lottery_peel.specs.Standing.{IsNextStanding, IsStanding, MultipleAt, TightAt};
 
-use crate::dues::{list_due, set_dues};
+use crate::dues::{list_due, set_dues, wait_again};
 use crate::standing::Standing;
 use match_rules::Rules;
 use residual_arcs::{Step, arc_of};
@@ -51,6 +51,12 @@ fn turn_due(
         standing.steps.as_slice(),
         &mut standing.dues,
     );
+    wait_again(
+        all,
+        standing.dues.as_slice(),
+        standing.steps.as_slice(),
+        &mut standing.waiting,
+    )?;
     Ok(())
 }
 
@@ -141,8 +147,13 @@ pub fn advance(
     requires ready { (a : ℕ) → a < length standing.old.net.arcs → (TightAt rules.now.tickets left standing.old a ⊎ (slice_index standing.old.dues.items a + left ≡ rules.now.tickets)) }
     ensures { OnOk result (IsNextStanding rules.now left rest.now standing.new) }
 {
-    let _arcs = standing.net.arcs();
-    list_due(standing.dues.as_slice(), rules.tickets() - left, arcs)?;
+    let used = rules.tickets() - left;
+    list_due(
+        standing.dues.as_slice(),
+        standing.waiting.at(used),
+        used,
+        arcs,
+    )?;
     settle_all(rules, rest, left, standing, arcs.as_slice())?;
     Ok(())
 }

@@ -7,6 +7,8 @@ ghost use Rattle.bounded_network.specs.Compile.{flow_of, place_count};
 ghost use Rattle.bounded_network.specs.Network.{IsCirculation, AreViolated};
 ghost use Rattle.lottery_peel.specs.Standing.{AreFirstDues, HasRounded, IsNextStanding, PassesOn};
 
+use crate::due_lists::DueLists;
+use crate::dues::all_waiting;
 use crate::weights::limit_of;
 use bounded_network::{Amounts, Network, amounts_of, compile};
 use flow_solver::{Solution, solve};
@@ -16,13 +18,14 @@ use std::alloc::{AllocError, Global};
 use unit_turns::{Side, blank, links_serve};
 
 /// The counts of a next assignment, at the places of the arcs of the rounded network, and for each the ticket at which it is
-/// due: until then it may stand. What else is here serves to turn units.
+/// due: until then it may stand, and its arc waits in the list of that ticket. What else is here serves to turn units.
 #[derive(Drop)]
 pub struct Standing {
     pub net: Network,
     pub links: Links,
     pub counts: Vec<u64>,
     pub dues: Vec<u32>,
+    pub waiting: DueLists,
     pub ahead: Side,
     pub behind: Side,
     pub steps: Vec<Step>,
@@ -86,6 +89,8 @@ pub fn first_standing(alloc: Global, rules: &Rules, shares: &Shares) -> Result<S
     let net = rounded_network(alloc, rules, shares)?;
     let counts = circulation_in(alloc, &net)?;
     let dues = first_dues(alloc, rules, shares, counts.as_slice())?;
+    let _arcs = net.arcs();
+    let waiting = all_waiting(alloc, rules.tickets(), dues.as_slice())?;
     let links = links_of(alloc, &net)?;
     links_serve(&net, &links);
     let ahead = blank(alloc, &net)?;
@@ -95,6 +100,7 @@ pub fn first_standing(alloc: Global, rules: &Rules, shares: &Shares) -> Result<S
         links,
         counts,
         dues,
+        waiting,
         ahead,
         behind,
         steps: Vec::new(alloc),

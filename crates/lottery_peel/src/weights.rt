@@ -32,10 +32,10 @@ pub fn weight_of(rules: &Rules, rest: &SparseShares, left: u32, standing: &Stand
     requires fewer { left ≤ rules.now.tickets }
     requires next { IsNextStanding rules.now left rest.now standing.now }
     ensures weighs { IsWeight left (flow_of rules.now rest.now) standing.now.counts.items (length (flow_of rules.now rest.now)) result }
-    ensures least { IsLeastDue rules.now.tickets standing.now.dues.items (length standing.now.dues.items) (rules.now.tickets - left + result) }
+    ensures least { IsLeastDue rules.now.tickets standing.now.dues.items (rules.now.tickets - left + result) }
 {
     let all = rules.tickets();
     let used = all - left;
-    let ticket = least_due(all, standing.dues.as_slice());
+    let ticket = least_due(all, used, standing.dues.as_slice(), &standing.waiting);
     ticket - used
 }

@@ -1,6 +1,7 @@
-use Rattle.lottery_peel.specs.Standing.{IsLeastDue}
+use Rattle.std.proofs.Common.{ℕ, ◌<◌, ◌≤◌, length}
+use Rattle.std.specs.Prelude.{slice_index}
 use Rattle.lottery_peel.proofs.dues.least_due.Given as goal
 
--- the least of those so far
-abbrev pub invariant-loop-a : goal.invariant-loop-a
-invariant-loop-a l = IsLeastDue l.all l.dues l.a l.ticket
+-- no count is due at the tickets so far
+abbrev pub invariant-loop-ticket : goal.invariant-loop-ticket
+invariant-loop-ticket l = (a : ℕ) → a < length l.dues → l.ticket ≤ slice_index l.dues a

@@ -1,4 +1,4 @@
-use Rattle.std.proofs.Common.{◌≡◌, ℕ, ◌+◌, ◌-◌, ◌<◌, Bool, ltb, List, length, sym, ◌∙◌, subst, arith}
+use Rattle.std.proofs.Common.{◌≡◌, ◌≢◌, ℕ, ◌+◌, ◌-◌, ◌<◌, Bool, ltb, List, length, sym, ◌∙◌, subst, arith}
 use Rattle.std.specs.Prelude.{slice_index}
 use Rattle.std.specs.Vec.{with_items}
 use Rattle.std.proofs.lemmas.List.{get_or_read, with_items_is}
@@ -9,7 +9,8 @@ use Rattle.residual_arcs.specs.Step.{carried}
 use Rattle.unit_turns.specs.Fixed.{with_fixed}
 use Rattle.unit_turns.specs.Steps.{AreFree, AreTaken, step_at}
 use Rattle.lottery_peel.specs.declared.standing.Standing.{Standing}
-use Rattle.lottery_peel.specs.Standing.{AreTurned, IsLine, IsMultiple, IsTight}
+use Rattle.lottery_peel.specs.Standing.{AreTurned, IsLine, IsMultiple, IsTight, Waits}
+use Rattle.lottery_peel.proofs.DueLaws.{waits-others}
 use Rattle.lottery_peel.proofs.StandingLaws.{dues-between, due-possible, first-turned, lines-turned, multiple-turned, other-way, tight-turned}
 use Rattle.lottery_peel.proofs.settling.turn_due.Goals as goal
 
@@ -41,6 +42,32 @@ set_dues-requires-clause-before c =
     (λ i lt.
     (dues-between c.args.rules.now c.args.left c.args.rest.now c.args.standing.now c.requires.stands (step_at c.turn.new.steps.items i).arc (taken.arcs i lt)).0)
 
+pub wait_again-requires-clause-within : goal.wait_again-requires-clause-within
+wait_again-requires-clause-within c =
+    let s : Standing = c.args.standing.now in
+    let all : ℕ = c.args.rules.now.tickets in
+    let taken : AreTaken s.net c.deref_mut.result.now c.turn.new.flow c.turn.new.steps.items = rw c.if-not-turned.false at c.in_ok-turned.ensures.taken in
+    let turned : AreTurned all (all - c.args.left) c.turn.new.steps.items (length c.turn.new.steps.items) s.dues.items c.set_dues.new.dues =
+    rw (c.tickets-all.ensures.value, c.as_slice.ensures.value, c.deref_mut-2.ensures.value) at c.set_dues.ensures in
+    let dues : (with_items s.dues c.set_dues.new.dues).items ≡ c.set_dues.new.dues = with_items_is s.dues c.set_dues.new.dues (omega (arith, turned.long, s.dues.ok.0)) in
+    rw (c.as_slice-2.ensures.value, c.as_slice-3.ensures.value)
+    (λ i lt. subst (λ xs. (step_at c.turn.new.steps.items i).arc < length xs) (sym dues) (omega (arith, turned.long, c.requires.stands.long, taken.arcs i lt)))
+
+pub wait_again-requires-clause-long : goal.wait_again-requires-clause-long
+wait_again-requires-clause-long c = rw c.tickets-all.ensures.value c.requires.stands.waiting.long
+
+pub wait_again-requires-clause-others : goal.wait_again-requires-clause-others
+wait_again-requires-clause-others c =
+    let s : Standing = c.args.standing.now in
+    let all : ℕ = c.args.rules.now.tickets in
+    let steps : List Step = c.turn.new.steps.items in
+    let turned : AreTurned all (all - c.args.left) steps (length steps) s.dues.items c.set_dues.new.dues =
+    rw (c.tickets-all.ensures.value, c.as_slice.ensures.value, c.deref_mut-2.ensures.value) at c.set_dues.ensures in
+    let dues : (with_items s.dues c.set_dues.new.dues).items ≡ c.set_dues.new.dues = with_items_is s.dues c.set_dues.new.dues (omega (arith, turned.long, s.dues.ok.0)) in
+    rw (c.tickets-all.ensures.value, c.as_slice-2.ensures.value, c.as_slice-3.ensures.value)
+    (subst (λ xs. (a : ℕ) → a < length xs → slice_index xs a < all → ((i : ℕ) → i < length steps → (step_at steps i).arc ≢ a) → Waits s.waiting (slice_index xs a) a) (sym dues)
+    (waits-others all (all - c.args.left) steps s.dues.items c.set_dues.new.dues s.waiting turned c.requires.stands.waiting))
+
 pub returns-clause-stands : goal.returns-clause-stands
 returns-clause-stands c =
     let s : Standing = c.args.standing.now in
@@ -68,6 +95,7 @@ returns-clause-stands c =
           (subst (λ xs. IsLine all left (arc_at s.net a) (slice_index c.turn.new.flow a) (slice_index xs a) (slice_index amounts a)) (sym dues) (lines a lt));
       ahead = c.in_ok-turned.ensures.ahead;
       behind = c.in_ok-turned.ensures.behind;
+      waiting = rw (c.tickets-all.ensures.value, c.as_slice-2.ensures.value) at c.in_ok-wait_again.ensures;
     }
 
 pub returns-clause-last : goal.returns-clause-last
