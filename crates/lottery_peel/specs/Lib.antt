@@ -1,2 +1,3 @@
 pub mod Peeling
+pub mod Remainder
 pub mod Standing

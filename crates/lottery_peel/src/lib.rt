@@ -11,16 +11,17 @@
 // no other arc is looked at. At that ticket the amount is a multiple, and the count is given its other bound by a turn
 // (`unit_turns`), after which the bounds leave no other. A turn always finds a way, since the amounts that are left are balanced
 // between the bounds times the tickets that are left. What is left of the shares is kept in rows of the pairs that still have
-// tickets (`sparse_shares`).
+// tickets (`sparse_shares`). One type has both (`Remainder`), and keeps that they go together: a piece is one step of it.
 //
-// `specs/Peeling.antt` has the definitions of a step and of the pieces, `specs/Standing.antt` those of the counts that stand;
-// `proofs/` has the laws of one amount, of lists, of flows, of networks and of the loop.
+// `specs/Peeling.antt` has the definitions of a step and of the pieces, `specs/Standing.antt` those of the counts that stand, and
+// `specs/Remainder.antt` what is left; `proofs/` has the laws of one amount, of lists, of flows, of networks and of the loop.
 #![tactic(auto)]
 
 mod due_lists;
 mod dues;
 mod examples;
 mod peeling;
+mod remainder;
 mod settling;
 mod standing;
 mod weights;

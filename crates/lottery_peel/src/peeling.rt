@@ -1,6 +1,6 @@
 // The pieces of shares.
 
-ghost use Rattle.std.specs.Prelude.{◌≡◌, ◌+◌, ◌<◌, ◌≤◌, ◌⊎◌, ℕ, length, slice_index, All, IfOk, OnOk};
+ghost use Rattle.std.specs.Prelude.{◌≡◌, ◌+◌, ◌≤◌, length, All, IfOk};
 ghost use Rattle.match_rules.specs.declared.answer.Sieve.{Sieve};
 ghost use Rattle.match_rules.specs.declared.answer.Sieve.TheVariants.{All as EveryPair};
 ghost use Rattle.match_rules.specs.Answers.{Rounded};
@@ -9,33 +9,10 @@ ghost use Rattle.match_rules.specs.Plain.{Plain};
 ghost use Rattle.match_rules.specs.Rules.{AreRules};
 ghost use Rattle.match_rules.specs.SharesFit.{HasShares, SharesFit};
 ghost use Rattle.lottery_peel.specs.Peeling.{IsPeeled, unwhole_count};
-ghost use Rattle.lottery_peel.specs.Standing.{IsNextStanding, IsStanding, TightAt};
 
-use crate::settling::advance;
-use crate::standing::{Standing, first_standing};
-use crate::weights::weight_of;
+use crate::remainder::Remainder;
 use match_rules::{Lottery, Piece, Rules, Shares};
-use sparse_shares::SparseShares;
 use std::alloc::{AllocError, Global};
-
-// Makes the counts those of a next assignment, unless no tickets are left.
-fn go_on(
-    rules: &Rules,
-    rest: &SparseShares,
-    left: u32,
-    standing: &mut Standing,
-    arcs: &mut Vec<u32>,
-) -> Result<(), AllocError>
-    requires fewer { left ≤ rules.now.tickets }
-    requires stands { 1 ≤ left → IsStanding rules.now left rest.now standing.old }
-    requires ready { 1 ≤ left → (a : ℕ) → a < length standing.old.net.arcs → (TightAt rules.now.tickets left standing.old a ⊎ (slice_index standing.old.dues.items a + left ≡ rules.now.tickets)) }
-    ensures { OnOk result (1 ≤ left → IsNextStanding rules.now left rest.now standing.new) }
-{
-    if left > 0 {
-        advance(rules, rest, left, standing, arcs)?;
-    }
-    Ok(())
-}
 
 // The pieces, in the order in which they are peeled off.
 fn pieces_of(alloc: Global, rules: &Rules, shares: &Shares) -> Result<Vec<Piece>, AllocError>
@@ -44,22 +21,12 @@ fn pieces_of(alloc: Global, rules: &Rules, shares: &Shares) -> Result<Vec<Piece>
     ensures peeled { IfOk result (λ pieces. IsPeeled rules.now shares.now pieces.items) }
     ensures kept { AreRules rules.now }
 {
-    let pairs = rules.pairs().len();
-    let mut standing = first_standing(alloc, rules, shares)?;
-    let mut arcs = Vec::new(alloc);
     let mut pieces = Vec::new(alloc);
-    let mut rest = SparseShares::of(alloc, shares)?;
-    let mut left = rules.tickets();
-    while left > 0 {
-        let weight = weight_of(rules, &rest, left, &standing);
-        let chosen = &standing.counts[..pairs];
-        let places = rest.give(alloc, chosen, weight)?;
-        pieces.push(Piece {
-            weight,
-            pairs: places,
-        })?;
-        left -= weight;
-        go_on(rules, &rest, left, &mut standing, &mut arcs)?;
+    let mut remainder = Remainder::of(alloc, rules, shares)?;
+    while remainder.left() > 0 {
+        let (piece, next) = remainder.next(alloc)?;
+        pieces.push(piece)?;
+        remainder = next;
     }
     Ok(pieces)
 }
