@@ -18,7 +18,8 @@ use Rattle.fair_threshold.specs.declared.found.Threshold.{Threshold}
 use Rattle.fair_threshold.specs.declared.found.Threshold.TheVariants as threshold
 use Rattle.fair_threshold.specs.Levels.{IfScore, IsAt, IsAtScore, IsFree, IsFreeLevel, IsLevelAt, IsLevelOf, IsNoneFits, IsThresholdOf}
 use Rattle.fair_threshold.specs.declared.narrowing.Range.{Range}
-use Rattle.fair_threshold.specs.Search.{IsRange, NoShares}
+use Rattle.fair_threshold.specs.declared.descent.Ceiling.{Ceiling}
+use Rattle.fair_threshold.specs.Search.{IsCeiling, IsRange, NoShares}
 use Rattle.fair_threshold.proofs.SieveLaws.{violated-finer}
 
 -- a cut that is violated leaves no lottery
@@ -107,12 +108,21 @@ threshold-score rules (threshold.At found cut) are is score =
 threshold-score rules (threshold.NoneFits cut) are is score =
     (λ at. absurd at, λ that. none-under rules EveryPair cut are is.violated (can-all rules (AtLeast score) that.feasible))
 
--- a range, from what is known of its parts
+-- a ceiling, and a range, from what is known of their parts
+pub ceiling-of : (rules : RulesValue) (high same : ℤ) (cut : Cut) → same ≡ high → CutMatches rules cut → high ≤ℤ pos most_score → Violated rules (Above high) cut
+    → IsCeiling rules (record { high = same; cut = cut })
+ceiling-of rules high same cut is known low violated = rw is (record { known = known; low = low; above = violated })
+
 pub range-of : (rules : RulesValue) (low high same_low same_high : ℤ) (shares : List ℕ) (cut : Cut) → same_low ≡ low → same_high ≡ high
     → IsOpenScore rules low → SharesFit rules (AtLeast low) shares → CutMatches rules cut → Violated rules (Above high) cut
     → IsRange rules (record { low = same_low; shares = shares; high = same_high; cut = cut })
 range-of rules low high same_low same_high shares cut low_is high_is of_pair fit known violated =
     rw (low_is, high_is) (record { of_pair = of_pair; fit = fit; known = known; above = violated })
+
+-- below a ceiling the locked pairs alone don't suffice
+pub ceiling-asked : (rules : RulesValue) (ceiling : Ceiling) → AreRules rules → IsCeiling rules ceiling → ¬ (CanFitLocked rules)
+ceiling-asked rules ceiling are is =
+    not-locked rules ceiling.cut are (violated-finer rules (Above (pos most_score)) (Above ceiling.high) ceiling.cut are (finer-above ceiling.high (pos most_score) is.low) is.above)
 
 -- where its ends meet there is the level
 pub level-met : (rules : RulesValue) (range : Range) → AreRules rules → ¬ (CanFitLocked rules) → IsRange rules range → range.high ≤ℤ range.low

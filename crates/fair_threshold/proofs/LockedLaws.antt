@@ -4,6 +4,7 @@ use Rattle.std.proofs.lemmas.Bool.{eqb-true}
 use Rattle.std.proofs.lemmas.List.Elements.{All-cons, All-nil}
 use Rattle.std.proofs.Math.ListN.{get_or-map, length-map}
 use Rattle.std.specs.Prelude.{pos, slice_index, ◌==◌}
+use Rattle.match_rules.specs.declared.answer.Sieve.{Sieve}
 use Rattle.match_rules.specs.declared.answer.Sieve.TheVariants.{All as EveryPair, Above}
 use Rattle.match_rules.specs.declared.lottery.Piece.{Piece}
 use Rattle.match_rules.specs.declared.rules.TheConstants.{MOST_TICKETS}
@@ -17,6 +18,8 @@ use Rattle.match_rules.specs.Sums.{count_below, when}
 use Rattle.match_rules.specs.Thresholds.{CanFitLocked}
 use Rattle.match_rules.proofs.ChosenLaws.{chosen-meets, chosen-rounded}
 use Rattle.match_rules.proofs.SieveLaws.{keeps-locked}
+use Rattle.fair_threshold.specs.Search.{IsUsed}
+use Rattle.fair_threshold.proofs.SieveLaws.{fit-unused}
 
 -- the counts of the pairs: the shares over all tickets
 abbrev counts_of : List ℕ → List ℕ
@@ -197,3 +200,8 @@ locked-fits rules shares are fit = (
         (omega (arith, floor, (are.pairs.each e h).ordered)))
     capped e h (inr (free, none)) =
         capped-never (holds (chosen_places (counts_of shares)) e) rules.tickets (cap_under rules EveryPair e) (unheld e h free)
+
+-- shares that use no pair that isn't locked fit with the locked pairs alone, whatever the sieve
+pub unused-locked : (rules : RulesValue) (sieve : Sieve) (shares : List ℕ) → AreRules rules → ((e : ℕ) → e < length rules.pairs → ¬ (IsUsed rules shares e))
+    → SharesFit rules sieve shares → CanFitLocked rules
+unused-locked rules sieve shares are none fit = locked-fits rules shares are (fit-unused rules sieve (Above (pos most_score)) shares none fit)

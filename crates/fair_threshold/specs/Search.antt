@@ -3,14 +3,19 @@ use Rattle.std.specs.Prelude.{◌≡◌, ◌<◌, ◌≤◌, ℕ, List, length, 
 use Rattle.std.specs.Int.{int_min}
 use Rattle.match_rules.specs.declared.answer.Cut.{Cut}
 use Rattle.match_rules.specs.declared.answer.Sieve.{Sieve}
-use Rattle.match_rules.specs.declared.answer.Sieve.TheVariants.{AtLeast, Above}
+use Rattle.match_rules.specs.declared.answer.Sieve.TheVariants.{All as EveryPair, AtLeast, Above}
 use Rattle.match_rules.specs.Answers.{CutMatches}
 use Rattle.match_rules.specs.Evidence.{Violated}
-use Rattle.match_rules.specs.Rules.{RulesValue, is_locked, pair_at}
+use Rattle.match_rules.specs.Rules.{RulesValue, is_locked, most_score, pair_at}
 use Rattle.match_rules.specs.SharesFit.{SharesFit}
 use Rattle.match_rules.specs.Thresholds.{IsOpenScore}
 use Rattle.bounded_network.specs.declared.network.Arc.{Arc}
 use Rattle.bounded_network.specs.Network.{NetworkValue}
+use Rattle.fair_threshold.specs.declared.descent.Ceiling.{Ceiling}
+use Rattle.fair_threshold.specs.declared.descent.Start.{Start}
+use Rattle.fair_threshold.specs.declared.descent.Start.TheVariants.{Between, Nowhere}
+use Rattle.fair_threshold.specs.declared.descent.Step.{Step}
+use Rattle.fair_threshold.specs.declared.descent.Step.TheVariants.{Met, Lower, Stuck}
 use Rattle.fair_threshold.specs.declared.probing.Probe.{Probe}
 use Rattle.fair_threshold.specs.declared.probing.Probe.TheVariants.{Fits, Barred}
 use Rattle.fair_threshold.specs.declared.narrowing.Range.{Range}
@@ -64,3 +69,20 @@ pub record IsRange (rules : RulesValue) (range : Range) : Type 0 where
   pub fit : SharesFit rules (AtLeast range.low) range.shares
   pub known : CutMatches rules range.cut
   pub above : Violated rules (Above range.high) range.cut
+
+-- a cut is violated above a score that is within the limit
+pub record IsCeiling (rules : RulesValue) (ceiling : Ceiling) : Type 0 where
+  pub known : CutMatches rules ceiling.cut
+  pub low : ceiling.high ≤ℤ pos most_score
+  pub above : Violated rules (Above ceiling.high) ceiling.cut
+
+-- a range of the level, or a further ceiling
+abbrev pub IsStep : RulesValue → Step → Type 0
+IsStep rules (Met range) = IsRange rules range
+IsStep rules (Lower ceiling) = IsCeiling rules ceiling
+IsStep rules (Stuck ceiling) = IsCeiling rules ceiling
+
+-- a range of the level, or a cut that is violated with all pairs
+abbrev pub IsStart : RulesValue → Start → Type 0
+IsStart rules (Between range) = IsRange rules range
+IsStart rules (Nowhere cut) = IsBarred rules EveryPair cut

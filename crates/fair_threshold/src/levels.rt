@@ -1,47 +1,35 @@
 // The level of rules, by shares and cuts.
 
-ghost use Rattle.std.specs.Prelude.{◌↔◌, ◌<ℤ◌, ℤ, IfOk, pos};
-ghost use Rattle.match_rules.specs.declared.answer.Sieve.TheVariants.{All as EveryPair, AtLeast, Above};
+ghost use Rattle.std.specs.Prelude.{◌↔◌, ◌<ℤ◌, ℤ, IfOk};
+ghost use Rattle.match_rules.specs.declared.answer.Sieve.TheVariants.{All as EveryPair, AtLeast};
 ghost use Rattle.match_rules.specs.Plain.{Plain};
-ghost use Rattle.match_rules.specs.Rules.{most_score};
 ghost use Rattle.match_rules.specs.Thresholds.{CanFit, CanFitLocked, IsThreshold};
 ghost use Rattle.fair_threshold.specs.Levels.{IfScore, IsFreeLevel, IsLevelOf, IsNoLevel};
-ghost use Rattle.fair_threshold.specs.Search.{IsBarred, NoShares};
+ghost use Rattle.fair_threshold.specs.Search.{IsCeiling, NoShares};
 
+use crate::descent::{Ceiling, Start, start_of};
+use crate::first_cut::first_cut;
 use crate::found::FoundLevel;
-use crate::narrowing::{Range, narrowed};
+use crate::known::bars_locked;
+use crate::lowering::TOP;
+use crate::narrowing::narrowed;
 use crate::probing::{Probe, probed};
-use crate::scores::{least_score, open_scores};
-use match_rules::{Cut, MOST_SCORE, Rules, Sieve};
+use match_rules::{Rules, Sieve};
 use std::alloc::{AllocError, Global};
 
-// A score that no pair passes.
-const TOP: i64 = MOST_SCORE as i64;
-
-// The level of rules where the locked pairs alone don't suffice, as a cut shows.
-fn asked_level(alloc: Global, rules: &Rules, cut: Cut) -> Result<FoundLevel, AllocError>
+// The level of rules below a ceiling, which shows that the locked pairs alone don't suffice.
+fn asked_level(alloc: Global, rules: &Rules, ceiling: Ceiling) -> Result<FoundLevel, AllocError>
     requires plain { Plain rules.now }
-    requires barred { IsBarred rules.now (Above (pos most_score)) cut }
+    requires ceiling { IsCeiling rules.now ceiling }
     ensures level { IfOk result (IsLevelOf rules.now) }
     ensures none { IfOk result (λ level. IsNoLevel level ↔ NoShares rules.now EveryPair) }
 {
     // The rules keep their conditions.
     let _pairs = rules.pairs();
-    match probed(alloc, rules, Sieve::All)? {
-        Probe::Barred { cut } => Ok(FoundLevel::NoneFits { cut }),
-        Probe::Fits { shares } => {
-            let low = match least_score(rules, &shares) {
-                Some(low) => low,
-                None => unreachable!(),
-            };
-            let scores = open_scores(alloc, rules)?;
-            let whole = Range {
-                low,
-                shares,
-                high: TOP,
-                cut,
-            };
-            let range = narrowed(alloc, rules, &scores, whole)?;
+    match start_of(alloc, rules, ceiling)? {
+        Start::Nowhere { cut } => Ok(FoundLevel::NoneFits { cut }),
+        Start::Between { range: whole } => {
+            let range = narrowed(alloc, rules, whole)?;
             Ok(FoundLevel::At {
                 score: range.low,
                 shares: range.shares,
@@ -51,8 +39,8 @@ fn asked_level(alloc: Global, rules: &Rules, cut: Cut) -> Result<FoundLevel, All
     }
 }
 
-// The level of rules, with what says that it is one.
-fn found_level(alloc: Global, rules: &Rules) -> Result<FoundLevel, AllocError>
+// The level of rules, where a flow says whether the locked pairs alone suffice.
+fn probed_level(alloc: Global, rules: &Rules) -> Result<FoundLevel, AllocError>
     requires plain { Plain rules.now }
     ensures level { IfOk result (IsLevelOf rules.now) }
     ensures none { IfOk result (λ level. IsNoLevel level ↔ NoShares rules.now EveryPair) }
@@ -61,15 +49,30 @@ fn found_level(alloc: Global, rules: &Rules) -> Result<FoundLevel, AllocError>
     let _pairs = rules.pairs();
     match probed(alloc, rules, Sieve::Above { score: TOP })? {
         Probe::Fits { shares: _shares } => Ok(FoundLevel::Free),
-        Probe::Barred { cut } => asked_level(alloc, rules, cut),
+        Probe::Barred { cut } => asked_level(alloc, rules, Ceiling { high: TOP, cut }),
+    }
+}
+
+// The level of rules, with what says that it is one.
+fn found_level(alloc: Global, rules: &Rules) -> Result<FoundLevel, AllocError>
+    requires plain { Plain rules.now }
+    ensures level { IfOk result (IsLevelOf rules.now) }
+    ensures none { IfOk result (λ level. IsNoLevel level ↔ NoShares rules.now EveryPair) }
+{
+    let cut = first_cut(alloc, rules)?;
+    let bars = bars_locked(rules, &cut);
+    if bars {
+        asked_level(alloc, rules, Ceiling { high: TOP, cut })
+    } else {
+        probed_level(alloc, rules)
     }
 }
 
 /// The level of rules in the fair mode, by shares and cuts alone: no lottery is made. With one that has the shares, as
 /// `lottery_peel::peel` gives it, the score is the threshold.
 ///
-/// Each score that is tried costs a feasible flow of the rules at no cost, in a network built anew; they are about the binary
-/// logarithm of the number of distinct scores, and one each for all pairs and for the locked ones.
+/// Each score that is tried costs a feasible flow of the rules at no cost, in a network built anew. Where the pairs of one paper
+/// decide, it is one score; else they are about the binary logarithm of the number of distinct scores, and four more at most.
 pub fn level_of(alloc: Global, rules: &Rules) -> Result<FoundLevel, AllocError>
     requires plain { Plain rules.now }
     ensures level { IfOk result (IsLevelOf rules.now) }

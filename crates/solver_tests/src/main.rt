@@ -5,7 +5,9 @@
 //! space between the words; an empty line stands between two rules. The answer is `best TOTAL places COUNT` where the prices show that
 //! the shares are best, with the places that the whole assignment of the network of rounded amounts fills, `violated` where the
 //! cut shows that no lottery fits, and `unproved` where neither shows anything. The next line is the level of the rules in the mode
-//! fair: `level SCORE`, `level free` or `level none`. Last comes the cheapest circulation of two nodes after other bounds of an arc.
+//! fair: `level SCORE`, `level free` or `level none`; after it the threshold, which also takes a lottery at that score:
+//! `threshold SCORE`, `threshold free` or `threshold none`. Last comes the cheapest circulation of two nodes after other bounds
+//! of an arc.
 #![tactic(auto)]
 
 ghost use Rattle.std.specs.Prelude.{◌≡◌, length};
@@ -13,7 +15,7 @@ ghost use Rattle.std.specs.Prelude.{◌≡◌, length};
 use anyhow::{Context, bail};
 use bounded_network::{Amounts, Arc, Network, compile, cut_of, prices_of, shares_of};
 use dual_check::{is_best, is_violated};
-use fair_threshold::{FoundLevel, level_of};
+use fair_threshold::{FoundLevel, Threshold, level_of, threshold};
 use flow_solver::{Solution, solve};
 use match_rules::{
     Institution, PaperId, ReviewerId, RulePair, RulePaper, RuleReviewer, Rules, Shares, Sieve,
@@ -230,6 +232,16 @@ fn show_level(rt: &HostRuntime, rules: &Rules) -> anyhow::Result<()> {
     Ok(())
 }
 
+// The threshold of the rules.
+fn show_threshold(rt: &HostRuntime, rules: &Rules) -> anyhow::Result<()> {
+    match threshold(rt.alloc(), rules)? {
+        Threshold::Free => println!(rt; "threshold free")?,
+        Threshold::At { score, cut: _cut } => println!(rt; "threshold {score}")?,
+        Threshold::NoneFits { cut: _cut } => println!(rt; "threshold none")?,
+    }
+    Ok(())
+}
+
 fn run(rt: &HostRuntime) -> anyhow::Result<()> {
     let alloc = rt.alloc();
     let mut bytes = Vec::new(alloc);
@@ -242,6 +254,7 @@ fn run(rt: &HostRuntime) -> anyhow::Result<()> {
             Shown::Nothing => println!(rt; "unproved")?,
         }
         show_level(rt, &rules)?;
+        show_threshold(rt, &rules)?;
     }
     show_rebound(rt)
 }

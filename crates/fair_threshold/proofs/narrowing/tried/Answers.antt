@@ -1,31 +1,22 @@
 use Rattle.std.proofs.Common.{◌≡◌, rules, arith, refl, to_z, of_z, w64}
 use Rattle.std.proofs.lemmas.Int.{ints}
-use Rattle.std.specs.Prelude.{ℤ, pos, ◌<ℤ◌}
+use Rattle.std.specs.Prelude.{ℤ, ◌<ℤ◌}
 use Rattle.match_rules.specs.declared.answer.Sieve.TheVariants.{Above}
-use Rattle.match_rules.specs.Evidence.{Violated}
-use Rattle.match_rules.specs.Rules.{RulesValue, most_score}
+use Rattle.match_rules.specs.Rules.{RulesValue}
 use Rattle.match_rules.specs.SharesFit.{SharesFit}
 use Rattle.fair_threshold.specs.Search.{IsBarred}
 use Rattle.fair_threshold.proofs.LevelLaws.{range-of}
+use Rattle.fair_threshold.proofs.LockedLaws.{unused-locked}
 use Rattle.fair_threshold.proofs.ScoreLaws.{used-above, used-open}
-use Rattle.fair_threshold.proofs.SieveLaws.{fit-from_least, fit-unused}
+use Rattle.fair_threshold.proofs.SieveLaws.{fit-from_least}
 use Rattle.fair_threshold.proofs.narrowing.tried.Goals as goal
-
-pub returns-then-serves-clause-range : goal.returns-then-serves-clause-range
-returns-then-serves-clause-range c =
-    let all : RulesValue = c.args.rules.now in
-    let score : ℤ = to_z w64 (of_z w64 c.args.score) in
-    let same : to_z w64 (of_z w64 c.args.range.low) ≡ c.args.range.low = search rules in
-    let violated : Violated all (Above score) c.args.range.cut = c.is_violated-serves.ensures.exact.0 c.if-serves.true in
-    range-of all c.args.range.low score (to_z w64 (of_z w64 c.args.range.low)) score c.args.range.shares c.args.range.cut same refl
-    c.requires.range.of_pair c.requires.range.fit c.requires.range.known violated
 
 pub unreachable-requires : goal.unreachable-requires
 unreachable-requires c =
     let all : RulesValue = c.args.rules.now in
     let score : ℤ = to_z w64 (of_z w64 c.args.score) in
     let fit : SharesFit all (Above score) c.in-Fits.shares = rw c.in-Fits.is at c.in_ok-shares.ensures in
-    c.requires.asked c.in-Fits.shares (fit-unused all (Above score) (Above (pos most_score)) c.in-Fits.shares c.in-None.ensures fit)
+    c.requires.asked (unused-locked all (Above score) c.in-Fits.shares c.pairs-pairs.ensures.kept c.in-None.ensures fit)
 
 pub returns-in-Some-clause-range : goal.returns-in-Some-clause-range
 returns-in-Some-clause-range c =

@@ -4,7 +4,7 @@ use Rattle.match_rules.specs.Rules.{RulesValue, most_score}
 use Rattle.match_rules.specs.SharesFit.{SharesFit}
 use Rattle.match_rules.proofs.SieveLaws.{finer-every_pair, shares_fit-more}
 use Rattle.fair_threshold.proofs.LockedLaws.{locked-fits}
-use Rattle.fair_threshold.proofs.levels.found_level.Goals as goal
+use Rattle.fair_threshold.proofs.levels.probed_level.Goals as goal
 
 pub returns-in-Fits-clause-level : goal.returns-in-Fits-clause-level
 returns-in-Fits-clause-level c =

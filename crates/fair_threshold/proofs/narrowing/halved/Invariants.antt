@@ -1,7 +1,7 @@
 use Rattle.std.specs.Prelude.{◌-ℤ◌}
 use Rattle.fair_threshold.specs.Search.{IsRange}
 use Rattle.fair_threshold.proofs.LevelLaws.{span_of}
-use Rattle.fair_threshold.proofs.narrowing.narrowed.Given as goal
+use Rattle.fair_threshold.proofs.narrowing.halved.Given as goal
 
 abbrev pub invariant-loop-range : goal.invariant-loop-range
 invariant-loop-range l = IsRange l.rules l.range

@@ -2,7 +2,7 @@ use Rattle.std.proofs.Common.{arith}
 use Rattle.std.proofs.lemmas.Int.{ints}
 use Rattle.std.specs.Prelude.{◌-ℤ◌}
 use Rattle.fair_threshold.proofs.LevelLaws.{span-falls}
-use Rattle.fair_threshold.proofs.narrowing.narrowed.Goals as goal
+use Rattle.fair_threshold.proofs.narrowing.halved.Goals as goal
 
 pub loop-range-smaller : goal.loop-range-smaller
 loop-range-smaller c =
