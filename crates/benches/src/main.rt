@@ -6,6 +6,8 @@
 //!   and writes the microseconds of each solve alone to standard error.
 //! - `write` reads a certificate on standard input and writes the text of its answer, for `bench/job.sh`; the microseconds of
 //!   the writing go to standard error.
+//! - `level` reads rules on standard input and prints their level in the fair mode, for `bench/job.sh`; the microseconds of the
+//!   search go to standard error.
 //!
 //! The stored run has the words `network` and `solve`. Its costs are those that `bench/plain_cost.py` finds; the last network
 //! there is contended enough for the coarse phase.
@@ -13,12 +15,14 @@
 
 mod answer;
 mod import;
+mod level;
 mod network;
 mod solve;
 
 use answer::write_again;
 use anyhow::bail;
 use import::import_values;
+use level::find_level;
 use network::compile_largest;
 use solve::solve_all;
 use std::env;
@@ -30,6 +34,7 @@ fn measure(rt: &HostRuntime, word: &str) -> anyhow::Result<()> {
         "solve" => solve_all(rt, false),
         "time" => solve_all(rt, true),
         "write" => write_again(rt),
+        "level" => find_level(rt),
         _ => bail!("{word} is no word of a benchmark"),
     }
 }

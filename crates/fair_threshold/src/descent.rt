@@ -15,7 +15,7 @@ use std::alloc::{AllocError, Global};
 
 // How many cuts are followed down before all pairs are asked. Where pairs of one paper alone decide, the first cut is enough;
 // where reviewers are contended, cuts lead down slowly.
-const STEPS: u32 = 2;
+const STEPS: u32 = 1;
 
 /// A score, and a cut that is violated with greater ones alone.
 #[derive(Drop)]

@@ -72,7 +72,7 @@ fn found_level(alloc: Global, rules: &Rules) -> Result<FoundLevel, AllocError>
 /// `lottery_peel::peel` gives it, the score is the threshold.
 ///
 /// Each score that is tried costs a feasible flow of the rules at no cost, in a network built anew. Where the pairs of one paper
-/// decide, it is one score; else they are about the binary logarithm of the number of distinct scores, and four more at most.
+/// decide, it is one score; else they are about the binary logarithm of the number of distinct scores, and three more at most.
 pub fn level_of(alloc: Global, rules: &Rules) -> Result<FoundLevel, AllocError>
     requires plain { Plain rules.now }
     ensures level { IfOk result (IsLevelOf rules.now) }

@@ -5,7 +5,7 @@
 // s and more. Whether something fits under a sieve is a circulation at no cost, or a violated cut. The fewer pairs, the
 // less fits. So the search goes down from above: a cut stays violated for all scores down to one that its own pairs say, which is
 // tried next (Newton's method for parametric cuts). The first cut is that round the paper which comes to its demand last, and is
-// found without a flow. Where a few cuts don't end the search, it halves the scores between one at which shares fit and one above
+// found without a flow. Where that doesn't end the search, it halves the scores between one at which shares fit and one above
 // which a cut is violated. Shares fit with the least score that they use, so that few networks are solved.
 //
 // Contracts and the answer don't depend on the order in which scores are tried: a threshold is unique.
