@@ -1,5 +1,7 @@
 pub mod TableLaws
 mod OpenJobs
+mod JobsStay
 mod BenchLaws
+mod WorkLaws
 pub mod DueLaws
 pub mod RowLaws

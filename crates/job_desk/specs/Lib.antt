@@ -1,4 +1,3 @@
 pub mod Keeping
-pub mod Lookups
 pub mod Drawing
 pub mod Evidence
