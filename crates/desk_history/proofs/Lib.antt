@@ -3,3 +3,5 @@ mod OpenJobs
 mod BenchLaws
 pub mod DueLaws
 pub mod RowLaws
+pub mod EditLaws
+mod KeptLaws
