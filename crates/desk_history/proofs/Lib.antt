@@ -5,3 +5,5 @@ mod BenchLaws
 mod WorkLaws
 pub mod DueLaws
 pub mod RowLaws
+pub mod EditLaws
+mod KeptLaws
