@@ -13,6 +13,7 @@ use Rattle.desk_history.specs.declared.entries.Entry.TheVariants.{Accepted, Ende
 use Rattle.desk_history.specs.Histories.{Earlier, History, commands, kept}
 use Rattle.command_index.specs.declared.index.CommandPlace.{CommandPlace}
 use Rattle.command_index.specs.Places.{place_in}
+use Rattle.command_index.specs.Repeats.{accepted_by}
 
 abbrev from_some : {A : Type 0} → A → Option A → A
 from_some other None = other
@@ -101,6 +102,12 @@ stands_at (Took bench job ∷ H) caller number place is = later (Took bench job)
 stands_at (Ended bench done ∷ H) caller number place is = later (Ended bench done) H (kept H caller number) place (stands_at H caller number place is)
 stands_at (Released bench ∷ H) caller number place is = later (Released bench) H (kept H caller number) place (stands_at H caller number place is)
 
+pub kept_there : (H : History) (caller : List ℕ) (number : ℕ) (place : CommandPlace) → place_in H caller number ≡ Some place
+    → accepted_by place.command (slice_get (reverse H) place.entry) ≡ kept H caller number
+kept_there H caller number place is =
+    let stands = stands_at H caller number place is in
+    ap (accepted_by place.command) stands.there ∙ sym stands.same
+
 none_on : (test : Bool) (place : CommandPlace) (found : Option CommandPlace) (now : Earlier) (earlier : Option Earlier)
     → cond test (Some place) found ≡ None → (found ≡ None → earlier ≡ None) → cond test (Some now) earlier ≡ None
 none_on true place found now earlier is rest = none_some place (sym is)
@@ -138,5 +145,5 @@ taken_out H caller number by its place found none is = out_on (bytes_eq caller b
   where
     same : (bytes_eq caller by && number == its) ≡ true → place_in H by its ≡ None
     same e =
-        let both = (Decides-and (bytes_eq-Decides caller by) (Decides-eqb number its)).0 e in
+        let both = (Decides-and (bytes_eq caller by) (number == its) (bytes_eq-Decides caller by) (Decides-eqb number its)).0 e in
         ap (λ b. place_in H b its) (sym both.0) ∙ ap (place_in H caller) (sym both.1) ∙ none

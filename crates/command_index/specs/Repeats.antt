@@ -1,6 +1,8 @@
 -- What a command repeats, where one of its caller and number was accepted.
-use Rattle.std.specs.Prelude.{if◌then◌else◌, Option, Some, None}
+use Rattle.std.specs.Prelude.{ℕ, if◌then◌else◌, Option, Some, None}
 use Rattle.desk_keeper.specs.declared.words.Command.{Command}
+use Rattle.desk_history.specs.declared.entries.Entry.{Entry}
+use Rattle.desk_history.specs.declared.entries.Entry.TheVariants.{Accepted}
 use Rattle.desk_history.specs.Histories.{Earlier}
 use Rattle.desk_history.specs.SameCommands.{is_same_command}
 use Rattle.command_index.specs.declared.repeats.Repeat.{Repeat}
@@ -13,3 +15,9 @@ repeat_by earlier command = if is_same_command earlier.command command then Same
 abbrev pub repeat_of : Option Earlier → Command → Option Repeat
 repeat_of None command = None
 repeat_of (Some earlier) command = Some (repeat_by earlier command)
+
+-- the command that an entry accepted, which has this place among the accepted ones
+abbrev pub accepted_by : ℕ → Option Entry → Option Earlier
+accepted_by place None = None
+accepted_by place (Some (Accepted by its command reply read)) = Some (record { place = place; command = command; reply = reply })
+accepted_by place (Some other) = None

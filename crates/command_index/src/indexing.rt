@@ -3,6 +3,7 @@
 ghost use Rattle.std.specs.Prelude.{◌≡◌, ◌<◌, ◌∷◌, ◌^◌, ◌+◌, IfOk, OnOk, length};
 ghost use Rattle.desk_history.specs.Courses.{history_of};
 ghost use Rattle.desk_history.specs.Histories.{History};
+ghost use Rattle.command_index.specs.Maps.{place_at};
 ghost use Rattle.command_index.specs.Places.{IsIndexOf, command_count};
 
 use crate::index::{CommandIndex, CommandPlace};
@@ -17,7 +18,7 @@ fn add_entry(
     commands: u64,
 ) -> Result<u64, AllocError>
     requires { commands < 2 ^ 63 }
-    ensures index { OnOk result ((H : History) → length H ≡ place → command_count H ≡ commands → IsIndexOf H index.old → IsIndexOf (entry.now ∷ H) index.new) }
+    ensures index { OnOk result ((H : History) → length H ≡ place → command_count H ≡ commands → IsIndexOf H (place_at index.old) → IsIndexOf (entry.now ∷ H) (place_at index.new)) }
     ensures commands { IfOk result (λ more. (H : History) → command_count H ≡ commands → more ≡ command_count (entry.now ∷ H)) }
 {
     match entry {
@@ -35,7 +36,7 @@ fn add_entry(
 
 /// The index of the commands among entries in the order of time.
 pub fn index_of(alloc: Global, entries: &Vec<Entry>) -> Result<CommandIndex, AllocError>
-    ensures { IfOk result (IsIndexOf (history_of entries.now)) }
+    ensures { IfOk result (λ index. IsIndexOf (history_of entries.now) (place_at index)) }
 {
     let mut index = CommandIndex::new(alloc);
     let mut commands = 0;

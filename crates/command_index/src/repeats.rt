@@ -1,12 +1,14 @@
 // What a command repeats of the accepted ones.
 
-ghost use Rattle.std.specs.Prelude.{◌≡◌, ◌↔◌, IfSome, IsNone, IsSome, None};
+ghost use Rattle.std.specs.Prelude.{◌≡◌, ◌↔◌, IfSome, IsErrOf, IsNone, IsSome, None, slice_get};
+ghost use Rattle.std.specs.Option.{option_map};
 ghost use Rattle.desk_history.specs.Courses.{history_of};
 ghost use Rattle.desk_history.specs.Histories.{kept};
 ghost use Rattle.desk_history.specs.SameCommands.{is_same_command};
 ghost use Rattle.desk_history.specs.Steps.{answered_by, command_step};
+ghost use Rattle.command_index.specs.Maps.{place_at};
 ghost use Rattle.command_index.specs.Places.{IsIndexOf};
-ghost use Rattle.command_index.specs.Repeats.{repeat_by, repeat_of};
+ghost use Rattle.command_index.specs.Repeats.{accepted_by, repeat_by, repeat_of};
 
 use crate::index::CommandIndex;
 use desk_history::{Answered, Done, Entry, Refusal};
@@ -43,18 +45,33 @@ fn repeat_by(place: u64, command: &Command, reply: Done, asked: &Command) -> Rep
     Repeat::Other { entry: place }
 }
 
+// The entry at a place, from 0 in the order of time.
+fn entry_at(entries: &Vec<Entry>, place: u64) -> Option<&Entry>
+    ensures { option_map (λ entry. entry.now) result ≡ slice_get entries.now.items place }
+{
+    entries.get(place as usize)
+}
+
+// What a command repeats of an entry, where that accepted one, which has this place among the accepted commands.
+fn repeat_in(entry: Option<&Entry>, place: u64, asked: &Command) -> Option<Repeat>
+    ensures { result ≡ repeat_of (accepted_by place (option_map (λ shown. shown.now) entry.entry)) asked.now }
+{
+    match entry {
+        Some(Entry::Accepted { command, reply, .. }) => {
+            Some(repeat_by(place, command, *reply, asked))
+        }
+        _ => None,
+    }
+}
+
 /// What a command repeats, where one of its caller and number was accepted: in logarithmic time and without memory.
 pub fn repeat_of(index: &CommandIndex, entries: &Vec<Entry>, named: &Named) -> Option<Repeat>
-    requires { IsIndexOf (history_of entries.now) index.now }
+    requires { IsIndexOf (history_of entries.now) (place_at index.now) }
     ensures { result ≡ repeat_of (kept (history_of entries.now) named.now.caller named.now.number) named.now.command }
 {
     let place = index.find(&named.caller, named.number)?;
-    match entries.get(place.entry as usize) {
-        Some(Entry::Accepted { command, reply, .. }) => {
-            Some(repeat_by(place.command, command, *reply, &named.command))
-        }
-        _ => unreachable!(),
-    }
+    let entry = entry_at(entries, place.entry);
+    repeat_in(entry, place.command, &named.command)
 }
 
 // The kept reply.
@@ -82,10 +99,11 @@ pub fn repeated(
     entries: &Vec<Entry>,
     named: &Named,
 ) -> Option<Result<Answered, Refusal>>
-    requires { IsIndexOf (history_of entries.now) index.now }
+    requires { IsIndexOf (history_of entries.now) (place_at index.now) }
     ensures new { IsNone result ↔ (kept (history_of entries.now) named.now.caller named.now.number ≡ None) }
     ensures reply { IfSome result (λ reply. (command_step (history_of entries.now) named.now).reply ≡ reply) }
     ensures entry { IsSome result → (command_step (history_of entries.now) named.now).entry ≡ None }
+    ensures keeper { IfSome result (λ reply. ¬ (IsErrOf reply Refusal.KeeperFault)) }
 {
     match repeat_of(index, entries, named) {
         Some(Repeat::Same { reply }) => Some(Ok(answered_by(reply))),
