@@ -24,7 +24,7 @@ use Rattle.desk_history.proofs.OpenJobs.{edition_present, first_present, open_jo
 pub present_rules : (H : History) (tables : Tables) → AreTables H tables → rules_at H (edits H) ≡ tables.rules
 present_rules H tables are = ap (λ (v : VenueValue). rules_or_none (rules_of v)) (edition_present H) ∙ ap rules_or_none are.rules
 
-waiting_edition : (H : History) (found : ℕ × Job) → first_waiting 1 (jobs H) ≡ Some found → found.1.edition ≡ edits H
+pub waiting_edition : (H : History) (found : ℕ × Job) → first_waiting 1 (jobs H) ≡ Some found → found.1.edition ≡ edits H
 waiting_edition H found first = subst (λ (some : Option (ℕ × Job)). IfSome some (λ it. it.1.edition ≡ edits H)) first (first_present (edits H) 1 (jobs H) (open_jobs H))
 
 pub taken : (H : History) (tables : Tables) (bench : ℕ) (found : ℕ × Job) → AreTables H tables → IsTakable H bench (Ok found)

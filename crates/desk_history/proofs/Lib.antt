@@ -1,5 +1,9 @@
 pub mod TableLaws
 mod OpenJobs
+mod JobsStay
 mod BenchLaws
+mod WorkLaws
 pub mod DueLaws
 pub mod RowLaws
+pub mod EditLaws
+mod KeptLaws

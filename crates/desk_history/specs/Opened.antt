@@ -1,6 +1,7 @@
 -- The history that rows are, and histories that come about step by step.
 use Rattle.std.specs.Prelude.{◌≡◌, ℕ, List, [], ◌∷◌, ◌⊎◌, take, slice_get, Option, Some, None, ⊤}
 use Rattle.match_rules.specs.Answers.{Certified}
+use Rattle.match_rules.specs.Pieces.{ArePieces}
 use Rattle.match_rules.specs.declared.answer.Answer.TheVariants.{Lottery}
 use Rattle.match_rules.specs.declared.answer.Winning.{Winning}
 use Rattle.publication.specs.Certificates.{answer_text}
@@ -17,12 +18,14 @@ use Rattle.desk_history.specs.Looks.{rules_at}
 use Rattle.desk_history.specs.Refusals.{refusal_of}
 use Rattle.desk_history.specs.Steps.{MayAsk, accepted, step}
 
--- the text is that of a lottery of the job's mode that is certified for the rules of the job's edition
+-- the text is that of a lottery of the job's mode that is certified for the rules of the job's edition; its pieces are such
+-- as a text may have
 pub record IsLotteryOf (H : History) (number : ℕ) (kept_text : List ℕ) (found : Option Certificate) : Type 0 where
   pub job : Job
   pub winning : Winning
   pub there : job_of H number ≡ Some job
   pub certified : Certified (rules_at H job.edition) job.mode winning
+  pub spelled : ArePieces winning.lottery
   pub text : kept_text ≡ answer_text (Lottery winning)
   pub read : found ≡ Some (record { rules = rules_at H job.edition; answer = Lottery winning })
 

@@ -40,7 +40,7 @@ or_else d (Some x) = x
 
 -- Lists
 
-all_get : {A : Type 0} (P : A → Type 0) (xs : List A) (i : ℕ) (x : A) → All P xs → slice_get xs i ≡ Some x → P x
+pub all_get : {A : Type 0} (P : A → Type 0) (xs : List A) (i : ℕ) (x : A) → All P xs → slice_get xs i ≡ Some x → P x
 all_get P xs i x all found = subst P (get_or_from_slice_get xs i x x found) (all i x (slice_get_within xs i x found))
 
 nth_get : {A : Type 0} (P : A → Type 0) (test : Bool) (xs : List A) (i : ℕ) (x : A) → All P xs → cond test None (slice_get xs i) ≡ Some x → P x

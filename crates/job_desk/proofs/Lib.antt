@@ -1,7 +1,10 @@
 mod BroughtLaws
 mod EvidenceLaws
-mod CommandLaws
 mod EditLaws
-mod FindLaws
 mod LegalLaws
 mod PublishedLaws
+mod DeskLaws
+mod LookLaws
+mod PublishLaws
+mod LettingLaws
+mod IndexLaws

@@ -1,4 +1,5 @@
 pub mod Keeping
-pub mod Lookups
+pub mod Looking
+pub mod Desks
 pub mod Drawing
 pub mod Evidence

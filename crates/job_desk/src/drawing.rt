@@ -48,8 +48,8 @@ fn brought_in(entries: &Vec<Entry>, place: u64) -> Option<&Certificate>
     }
 }
 
-// What the entry at a place brought to the history.
-fn brought_at(entries: &Vec<Entry>, decided: Option<u64>) -> Option<&Certificate>
+/// What the entry at a place brought to the history.
+pub fn brought_at(entries: &Vec<Entry>, decided: Option<u64>) -> Option<&Certificate>
     ensures { option_map (λ shown. shown.now) result ≡ brought_at (history_of entries.now) decided }
 {
     match decided {
@@ -58,8 +58,8 @@ fn brought_at(entries: &Vec<Entry>, decided: Option<u64>) -> Option<&Certificate
     }
 }
 
-// The rules of a job and its answer.
-fn evidence<'a>(entries: &'a Vec<Entry>, tables: &Tables, job: u64) -> Option<&'a Certificate>
+/// The rules of a job and its answer.
+pub fn evidence<'a>(entries: &'a Vec<Entry>, tables: &Tables, job: u64) -> Option<&'a Certificate>
     requires { AreTables (history_of entries.now) tables.now }
     ensures { option_map (λ shown. shown.now) result ≡ evidence_of (history_of entries.now) (job_of (history_of entries.now) job) }
 {
@@ -79,8 +79,8 @@ fn piece_at(lottery: &Lottery, ticket: u32) -> Option<&Piece>
     }
 }
 
-// The piece that a ticket draws of an answer.
-fn drawn_piece(answer: &Answer, ticket: u32) -> Option<&Piece>
+/// The piece that a ticket draws of an answer.
+pub fn drawn_piece(answer: &Answer, ticket: u32) -> Option<&Piece>
     ensures { option_map (λ piece. piece.now) result ≡ drawn_piece answer.now ticket }
 {
     match answer {

@@ -1,0 +1,4 @@
+mod CommandLaws
+mod FindLaws
+mod MapLaws
+mod PlaceLaws

@@ -1,0 +1,166 @@
+// The desk.
+
+ghost use Rattle.std.specs.Prelude.{◌≡◌, ◌≤◌, ◌<◌, ◌^◌, [], IfOk, IsErrOf, length};
+ghost use Rattle.std.specs.Option.{option_map};
+ghost use Rattle.edge_io.specs.Counts.{Rose};
+ghost use Rattle.desk_keeper.specs.Keepers.{Tells};
+ghost use Rattle.desk_history.specs.declared.refusals.TheConstants.{BENCHES, MOST_ROW_BYTES};
+ghost use Rattle.desk_history.specs.Courses.{AreKept, Does, history_of};
+ghost use Rattle.desk_history.specs.Histories.{edits, nth_of, outcome, publications};
+ghost use Rattle.desk_history.specs.Opened.{IsLegal};
+ghost use Rattle.desk_history.specs.Rows.{rows};
+ghost use Rattle.desk_history.specs.Steps.{MayAsk, step};
+ghost use Rattle.job_desk.specs.Desks.{AreNames, IsEnd, let_go};
+ghost use Rattle.job_desk.specs.Drawing.{drawn_of, value_of};
+ghost use Rattle.job_desk.specs.Evidence.{EachPublished};
+
+use crate::asking::ask;
+use crate::drawing::{Drawn, drawn_of};
+use crate::laws::evidence_laws;
+use crate::letting_go::let_go;
+use crate::looks;
+use crate::opening::empty_tables;
+use command_index::{CommandIndex, index_of};
+use desk_history::{Answered, Entry, Outcome, Refusal, Request, Tables};
+use desk_keeper::{Keeper, Name};
+use std::alloc::{AllocError, Global};
+use std::marker::Model;
+
+/// The desk of a conference. Contracts see the names of its chairs, which stay, and its history, which is legal.
+#[derive(Drop)]
+pub struct Desk {
+    alloc: Global,
+    chairs: Vec<Name>,
+    index: CommandIndex,
+    entries: Vec<Entry>,
+    tables: Tables,
+}
+
+impl Model for Desk {
+    ghost use Rattle.desk_history.specs.Courses.{history_of};
+    ghost use Rattle.job_desk.specs.Desks.{DeskValue, IsIndexedDesk};
+
+    ghost Value = { DeskValue };
+
+    ghost view = { λ d. record { chairs = d.chairs.items; history = history_of d.entries } };
+
+    ghost invariant = { λ d. IsIndexedDesk d.chairs.items d.index d.entries d.tables };
+}
+
+impl Desk {
+    /// A new desk of these chairs, with nothing done.
+    pub fn new(alloc: Global, chairs: Vec<Name>) -> Result<Desk, AllocError>
+        requires { AreNames chairs.items }
+        ensures { IfOk result (λ desk. desk ≡ record { chairs = chairs.items; history = [] }) }
+    {
+        let tables = empty_tables(alloc)?;
+        let entries = Vec::new(alloc);
+        let index = CommandIndex::new(alloc);
+        Ok(Desk {
+            alloc,
+            chairs,
+            index,
+            entries,
+            tables,
+        })
+    }
+
+    /// A desk of these chairs whose history stands in entries with their tables, as after a reopening.
+    pub fn opened(
+        alloc: Global,
+        chairs: Vec<Name>,
+        entries: Vec<Entry>,
+        tables: Tables,
+    ) -> Result<Desk, AllocError>
+        requires names { AreNames chairs.items }
+        requires legal { IsLegal chairs.items (history_of entries) }
+        requires kept { AreKept entries tables }
+        requires bytes { tables.bytes ≤ MOST_ROW_BYTES }
+        ensures { IfOk result (λ desk. desk ≡ record { chairs = chairs.items; history = history_of entries }) }
+    {
+        let index = index_of(alloc, &entries)?;
+        Ok(Desk {
+            alloc,
+            chairs,
+            index,
+            entries,
+            tables,
+        })
+    }
+
+    /// What the desk answers to a request. A command that is accepted is kept as one row more. A refusal, want of memory and
+    /// a keeper's fault leave the desk and the rows as they were.
+    pub fn answer<P: Keeper>(
+        &mut self,
+        keeper: &mut P,
+        request: Request,
+    ) -> Result<Answered, Refusal>
+        requires told { Tells (P.rows keeper.old) (rows self.old.history) }
+        requires may { MayAsk self.old.history request }
+        ensures step { Does (step self.old.chairs self.old.history request) self.old.history result self.new.history }
+        ensures chairs { self.new.chairs ≡ self.old.chairs }
+        ensures told { Tells (P.rows keeper.new) (rows self.new.history) }
+        ensures later { P.faults keeper.old ≤ P.faults keeper.new }
+        ensures fault { IsErrOf result Refusal.KeeperFault → Rose (P.faults keeper.old) (P.faults keeper.new) }
+        ensures ends { IsEnd request → ¬ (IsErrOf result Refusal.Memory) }
+        ensures published { EachPublished self.new.history }
+    {
+        evidence_laws();
+        ask(
+            self.alloc,
+            keeper,
+            &self.chairs,
+            &mut self.index,
+            &mut self.entries,
+            &mut self.tables,
+            request,
+        )
+    }
+
+    /// The number of the present edition. Takes no memory.
+    pub fn now(&self) -> u64
+        ensures { result ≡ edits self.now.history }
+    {
+        looks::now(&self.tables)
+    }
+
+    /// What a job came to; `None` where there is no such job. Takes no memory.
+    pub fn outcome(&self, job: u64) -> Option<Outcome>
+        ensures { result ≡ outcome self.now.history job }
+    {
+        looks::outcome_of(&self.tables, job)
+    }
+
+    /// The number of entries of the history. Takes no memory.
+    pub fn entries(&self) -> u64
+        ensures count { result ≡ length self.now.history }
+        ensures few { result < 2 ^ 63 }
+        ensures legal { IsLegal self.now.chairs self.now.history }
+    {
+        self.entries.len() as u64
+    }
+
+    /// The least place in the history, from this one on, at which the bench lets go of its job, done or not. Places count from
+    /// 0, in the order of time. Takes no memory.
+    pub fn let_go(&self, bench: u32, from: u64) -> Option<u64>
+        requires { bench < BENCHES }
+        ensures { result ≡ let_go self.now.history bench from }
+    {
+        let_go(&self.entries, bench, from)
+    }
+
+    /// The number of publications. Takes no memory.
+    pub fn publications(&self) -> u64
+        ensures { result ≡ length (publications self.now.history) }
+    {
+        looks::publications(&self.tables)
+    }
+
+    /// What the publication of a number has drawn; `None` where there is no such publication, and before its draw. Takes no
+    /// memory.
+    pub fn drawn(&self, publication: u64) -> Option<Drawn<'_>>
+        ensures { option_map value_of result ≡ drawn_of self.now.history (nth_of (publications self.now.history) publication) }
+    {
+        drawn_of(&self.entries, &self.tables, publication)
+    }
+}
