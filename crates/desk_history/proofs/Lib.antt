@@ -2,7 +2,7 @@ pub mod TableLaws
 mod OpenJobs
 mod JobsStay
 mod BenchLaws
-mod WorkLaws
+pub mod WorkLaws
 pub mod DueLaws
 pub mod RowLaws
 pub mod EditLaws

@@ -16,7 +16,7 @@ use Rattle.desk_history.specs.declared.requests.Request.{Request}
 use Rattle.desk_history.specs.Histories.{History, job_of, kept}
 use Rattle.desk_history.specs.Looks.{rules_at}
 use Rattle.desk_history.specs.Refusals.{refusal_of}
-use Rattle.desk_history.specs.Steps.{MayAsk, accepted, step}
+use Rattle.desk_history.specs.Steps.{IsTyped, MayAsk, accepted, step}
 
 -- the text is that of a lottery of the job's mode that is certified for the rules of the job's edition; its pieces are such
 -- as a text may have
@@ -67,6 +67,7 @@ pub record IsDamaged (rows : List (List ℕ)) (place : ℕ) : Type 0 where
 -- an entry that some request makes behind a history
 pub record Makes (chairs : List (List ℕ)) (H : History) (made : Entry) : Type 0 where
   pub request : Request
+  pub typed : IsTyped request
   pub may : MayAsk H request
   pub entry : (step chairs H request).entry ≡ Some made
 

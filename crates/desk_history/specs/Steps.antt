@@ -1,15 +1,16 @@
 -- What each request does to a history: the reply, and at most one entry more.
-use Rattle.std.specs.Prelude.{◌≡◌, ℕ, ◌+◌, ◌<◌, ◌==◌, if◌then◌else◌, Bool, true, false, List, [], ◌∷◌, length, bytes_eq, Option, Some, None, Ok, Err, ⊤}
+use Rattle.std.specs.Prelude.{◌≡◌, ℕ, ◌+◌, ◌<◌, ◌==◌, ◌^◌, if◌then◌else◌, Bool, true, false, List, [], ◌∷◌, length, bytes_eq, Option, Some, None, Ok, Err, ⊤}
 use Rattle.std.specs.List.{list_any}
 use Rattle.match_rules.specs.declared.answer.Mode.{Mode}
 use Rattle.match_rules.specs.declared.rules.TheConstants.{RULES_TICKETS}
 use Rattle.publication.specs.Draws.{ticket_of}
 use Rattle.publication.specs.declared.certificate.Certificate.{Certificate}
 use Rattle.match_rules.specs.Answers.{Certified, IsBlocked}
+use Rattle.match_rules.specs.Pieces.{ArePieces}
 use Rattle.match_rules.specs.Rules.{RulesValue}
 use Rattle.match_rules.specs.declared.answer.Answer.{Answer}
 use Rattle.match_rules.specs.declared.answer.Answer.TheVariants.{Lottery, Infeasible}
-use Rattle.desk_keeper.specs.Rows.{are_edit_words}
+use Rattle.desk_keeper.specs.Rows.{IsSmall, are_edit_words}
 use Rattle.desk_keeper.specs.declared.words.Command.{Command}
 use Rattle.desk_keeper.specs.declared.words.Command.TheVariants.{Edit, Submit, Publish, Draw}
 use Rattle.desk_keeper.specs.declared.words.Named.{Named}
@@ -170,6 +171,25 @@ MayAsk H (Look caller what) = ⊤
 MayAsk H (Take bench) = bench < BENCHES
 MayAsk H (Finish bench job done) = (bench < BENCHES) × IsWorkFor H job done
 MayAsk H (Release bench) = bench < BENCHES
+
+-- What a caller can hand in
+
+-- a lottery has pieces such as a text may have
+abbrev pub IsTypedAnswer : Answer → Type 0
+IsTypedAnswer (Lottery winning) = ArePieces winning.lottery
+IsTypedAnswer (Infeasible blocked) = ⊤
+
+abbrev pub IsTypedWork : Work → Type 0
+IsTypedWork (work.Answered certificate) = IsTypedAnswer certificate.answer
+IsTypedWork work.OutOfMemory = ⊤
+
+-- the numbers of a command have 64 bits, and what a bench hands in is such as its type has
+abbrev pub IsTyped : Request → Type 0
+IsTyped (Do its) = (its.number < 2 ^ 64) × IsSmall its.command
+IsTyped (Look caller what) = ⊤
+IsTyped (Take bench) = ⊤
+IsTyped (Finish bench job done) = IsTypedWork done
+IsTyped (Release bench) = ⊤
 
 -- Refusals that a step may have in place of its own
 
