@@ -28,8 +28,8 @@ use Rattle.desk_history.specs.Steps.{AcceptsCommand, Explains, MayAsk, accepted,
 use Rattle.desk_history.specs.Tables.{AreTables}
 use Rattle.job_desk.specs.Desks.{AreNames, IsDesk}
 use Rattle.job_desk.specs.Looking.{IsTold}
-use Rattle.job_desk.proofs.EvidenceLaws.{none_some}
-use Rattle.job_desk.proofs.LegalLaws.{first_none}
+use Rattle.desk_laws.proofs.EvidenceLaws.{none_some}
+use Rattle.desk_laws.proofs.LegalLaws.{first_none}
 
 -- Steps without an entry
 

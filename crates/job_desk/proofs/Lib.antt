@@ -1,8 +1,5 @@
 mod BroughtLaws
-mod EvidenceLaws
 mod EditLaws
-mod LegalLaws
-mod PublishedLaws
 mod DeskLaws
 mod LookLaws
 mod PublishLaws

@@ -15,10 +15,10 @@ use Rattle.desk_history.specs.Histories.{History, job_of, nth_of, publications}
 use Rattle.desk_history.specs.Looks.{drawn_piece, job_look, piece_at, rules_at}
 use Rattle.desk_history.specs.Opened.{IsLegal}
 use Rattle.desk_history.specs.Rows.{evidence_of}
-use Rattle.job_desk.specs.Evidence.{IsBacked}
+use Rattle.desk_laws.specs.Evidence.{IsBacked}
 use Rattle.job_desk.specs.Looking.{IsTold}
-use Rattle.job_desk.proofs.EvidenceLaws.{all_get, all_nth, none_some, or_else}
-use Rattle.job_desk.proofs.PublishedLaws.{legal_published}
+use Rattle.desk_laws.proofs.EvidenceLaws.{all_get, all_nth, none_some, or_else}
+use Rattle.desk_laws.proofs.PublishedLaws.{legal_published}
 
 piece_passes : (P : Piece → Type 0) (lottery : List Piece) (place : Option ℕ) (piece : Piece) → All P lottery → piece_at lottery place ≡ Some piece → P piece
 piece_passes P lottery None piece all found = none_some piece found

@@ -2,4 +2,3 @@ pub mod Keeping
 pub mod Looking
 pub mod Desks
 pub mod Drawing
-pub mod Evidence

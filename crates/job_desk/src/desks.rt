@@ -12,11 +12,11 @@ ghost use Rattle.desk_history.specs.Rows.{rows};
 ghost use Rattle.desk_history.specs.Steps.{MayAsk, step};
 ghost use Rattle.job_desk.specs.Desks.{AreNames, IsEnd, let_go};
 ghost use Rattle.job_desk.specs.Drawing.{drawn_of, value_of};
-ghost use Rattle.job_desk.specs.Evidence.{EachPublished};
+ghost use Rattle.desk_laws.specs.Evidence.{EachPublished};
 
 use crate::asking::ask;
 use crate::drawing::{Drawn, drawn_of};
-use crate::laws::evidence_laws;
+use desk_laws::evidence_laws;
 use crate::letting_go::let_go;
 use crate::looks;
 use crate::opening::empty_tables;

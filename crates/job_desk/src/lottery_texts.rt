@@ -15,7 +15,7 @@ ghost use Rattle.desk_history.specs.Steps.{IsRight};
 ghost use Rattle.desk_history.specs.Tables.{AreTables};
 
 use crate::drawing::evidence;
-use crate::laws::evidence_laws;
+use desk_laws::evidence_laws;
 use desk_history::{Entry, Refusal, Tables};
 use edge_io::{Io, Sink};
 use match_rules::{Answer, Rules};

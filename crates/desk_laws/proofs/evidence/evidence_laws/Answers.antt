@@ -1,7 +1,7 @@
-use Rattle.job_desk.proofs.LegalLaws.{certified_best, legal_shown, right_certificate}
+use Rattle.desk_laws.proofs.LegalLaws.{certified_best, legal_shown, right_certificate}
 use Rattle.std.proofs.Common.{refl}
 use Rattle.desk_history.specs.Histories.{job_of}
-use Rattle.job_desk.proofs.PublishedLaws.{legal_published, publishable_right}
+use Rattle.desk_laws.proofs.PublishedLaws.{legal_published, publishable_right}
 use Rattle.job_desk.proofs.laws.evidence_laws.Goals as goal
 
 pub returns-clause-evidence : goal.returns-clause-evidence

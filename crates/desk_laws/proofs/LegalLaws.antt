@@ -42,8 +42,8 @@ use Rattle.desk_history.specs.Refusals.{counted, is_open, is_without, own_refusa
 use Rattle.desk_history.specs.Rows.{evidence_of}
 use Rattle.desk_history.specs.SameCommands.{is_same_command}
 use Rattle.desk_history.specs.Steps.{IsRight, IsWorkFor, MayAsk, accepted, answered_by, command_step, done_of, finish_job, first_waiting, holds, is_chair, made, numbered_step, refused_or, release_at, step, take_at, take_first}
-use Rattle.job_desk.specs.Evidence.{AnsweredAreShown, IfAnswered}
-use Rattle.job_desk.proofs.EvidenceLaws.{IsFair, IsReadRightIn, IsSound, all_nth, all_one, all_with_nth, if_always, if_then, none_some, or_else, sound_next}
+use Rattle.desk_laws.specs.Evidence.{AnsweredAreShown, IfAnswered}
+use Rattle.desk_laws.proofs.EvidenceLaws.{IsFair, IsReadRightIn, IsSound, all_nth, all_one, all_with_nth, if_always, if_then, none_some, or_else, sound_next}
 
 -- Entries that requests make
 

@@ -23,7 +23,7 @@ use Rattle.desk_history.specs.Looks.{rules_at, rules_or_none}
 use Rattle.desk_history.specs.Refusals.{own_refusal}
 use Rattle.desk_history.specs.Steps.{IsRight, IsRightFor, IsWorkFor}
 use Rattle.venue_rules.specs.VenueRules.{rules_of}
-use Rattle.job_desk.specs.Evidence.{HasEvidence, IfAnswered, IsShown}
+use Rattle.desk_laws.specs.Evidence.{HasEvidence, IfAnswered, IsShown}
 
 -- Options
 

@@ -15,7 +15,7 @@ ghost use Rattle.desk_history.specs.Opened.{IsLegal};
 ghost use Rattle.desk_history.specs.Refusals.{publish_refusal};
 ghost use Rattle.desk_history.specs.Rows.{evidence_of};
 ghost use Rattle.desk_history.specs.Steps.{IsRight};
-ghost use Rattle.job_desk.specs.Evidence.{AnsweredAreShown, EachPublished};
+ghost use Rattle.desk_laws.specs.Evidence.{AnsweredAreShown, EachPublished};
 
 /// In a legal history each job with an answer has evidence: the rules of its edition, and an answer that is right for them
 /// in its mode; each publication is of a job whose evidence is a certified lottery; and what a job that may be published

@@ -30,9 +30,9 @@ use Rattle.desk_history.specs.Steps.{IsRight, accepted}
 use Rattle.desk_history.specs.Rows.{evidence_of}
 use Rattle.match_rules.specs.declared.answer.Mode.{Mode}
 use Rattle.std.specs.Prelude.{nat_lt}
-use Rattle.job_desk.specs.Evidence.{EachPublished, HasEvidence, IfAnswered, IsBacked}
-use Rattle.job_desk.proofs.EvidenceLaws.{IsFair, IsSound, all_nth, all_one, all_then, all_with_nth, none_some, or_else}
-use Rattle.job_desk.proofs.LegalLaws.{IsGood, first_none, legal_sound, made_fair, none_good, replays_fair, replays_good}
+use Rattle.desk_laws.specs.Evidence.{EachPublished, HasEvidence, IfAnswered, IsBacked}
+use Rattle.desk_laws.proofs.EvidenceLaws.{IsFair, IsSound, all_nth, all_one, all_then, all_with_nth, none_some, or_else}
+use Rattle.desk_laws.proofs.LegalLaws.{IsGood, first_none, legal_sound, made_fair, none_good, replays_fair, replays_good}
 
 -- Lists
 

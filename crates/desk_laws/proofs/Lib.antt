@@ -1,0 +1,3 @@
+pub mod EvidenceLaws
+pub mod LegalLaws
+pub mod PublishedLaws
