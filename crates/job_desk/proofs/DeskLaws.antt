@@ -1,5 +1,5 @@
 -- What a step leaves of a desk: a legal history, and rows that aren't too many bytes.
-use Rattle.std.proofs.Common.{◌≡◌, ◌+◌, ◌≤◌, ◌∷◌, ◌||◌, [], ℕ, Bool, true, false, cond, List, Option, None, Some, IfSome, Result, Ok, Err, IsErrOf, Vec, vec_len, vec_capacity, length, reverse, refl, subst, arith, ap, sym, inr, bytes_eq, suc}
+use Rattle.std.proofs.Common.{◌≡◌, ◌+◌, ◌≤◌, ◌<◌, ◌∷◌, ◌||◌, [], ℕ, Bool, true, false, cond, List, Option, None, Some, IfSome, Result, Ok, Err, IsErrOf, Vec, vec_len, vec_capacity, get_or, length, reverse, refl, subst, arith, ap, sym, inr, bytes_eq, suc}
 use Rattle.std.proofs.lemmas.Bool.{false≢true}
 use Rattle.std.proofs.lemmas.Slice.Eq.{bytes_eq-Decides}
 use Rattle.std.specs.Prelude.{nat_le, nat_lt}
@@ -188,11 +188,19 @@ pub command_next : (chairs : List (List ℕ)) (entries : Vec Entry Global) (tabl
 command_next chairs entries tables its answer more new desk typed may does kept =
     desk_next chairs entries tables (Do its) answer more new desk typed may does kept (few_bytes chairs (history_of entries) its answer (history_of more) (few_before chairs entries tables desk) does)
 
+-- without entries no bench has a job
+no_bench : (benches : List (Option ℕ)) → ((bench : ℕ) → bench < length benches → get_or benches bench None ≡ None) → full benches ≡ 0
+no_bench [] none = refl
+no_bench (None ∷ benches) none = no_bench benches (λ bench lt. none (suc bench) (omega (arith, lt)))
+no_bench (Some job ∷ benches) none = none_some job (sym (none 0 (omega arith)))
+
 -- a desk at which nothing was done
-pub new_desk : (chairs : List (List ℕ)) (entries : Vec Entry Global) (tables : Tables) → AreNames chairs → entries.items ≡ [] → AreTables [] tables → vec_len entries + full tables.benches ≤ vec_capacity entries → IsDesk chairs entries tables
-new_desk chairs entries tables names none are room = record {
-  names = names;
-  legal = subst (λ (items : List Entry). IsLegal chairs (reverse items)) (sym none) tt;
-  kept = record { are = subst (λ (items : List Entry). AreTables (reverse items) tables) (sym none) are; room = room };
-  bytes = subst (λ n. n ≤ MOST_ROW_BYTES) (sym are.bytes) (omega arith);
-}
+pub new_desk : (chairs : List (List ℕ)) (entries : Vec Entry Global) (tables : Tables) → AreNames chairs → entries.items ≡ [] → vec_len entries ≡ 0 → AreTables [] tables → IsDesk chairs entries tables
+new_desk chairs entries tables names none size are =
+    let free : full tables.benches ≡ 0 = no_bench tables.benches (λ bench lt. are.benches bench (subst (λ n. bench < n) are.bench_count lt)) in
+    record {
+      names = names;
+      legal = subst (λ (items : List Entry). IsLegal chairs (reverse items)) (sym none) tt;
+      kept = record { are = subst (λ (items : List Entry). AreTables (reverse items) tables) (sym none) are; room = omega (arith, free, size) };
+      bytes = subst (λ n. n ≤ MOST_ROW_BYTES) (sym are.bytes) (omega arith);
+    }
