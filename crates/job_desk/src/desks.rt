@@ -10,11 +10,11 @@ ghost use Rattle.desk_history.specs.Histories.{History, edits, nth_of, outcome, 
 ghost use Rattle.desk_history.specs.Opened.{IsDamaged, IsLegal, Opens};
 ghost use Rattle.desk_history.specs.Rows.{rows};
 ghost use Rattle.desk_history.specs.Steps.{MayAsk, step};
-ghost use Rattle.job_desk.specs.Desks.{IsEnd, let_go};
-ghost use Rattle.job_desk.specs.Drawing.{drawn_of, value_of};
 ghost use Rattle.desk_laws.specs.Evidence.{EachPublished};
 ghost use Rattle.desk_laws.specs.Reopened.{AreNames};
 ghost use Rattle.desk_reopening.specs.Reading.{NamesDamage, SameRows};
+ghost use Rattle.job_desk.specs.Desks.{IsEnd, let_go};
+ghost use Rattle.job_desk.specs.Drawing.{drawn_of, value_of};
 
 use crate::asking::ask;
 use crate::drawing::{Drawn, drawn_of};
