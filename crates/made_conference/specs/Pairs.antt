@@ -1,6 +1,6 @@
 -- The pairs of a made conference, each with its value and its bid.
-use Rattle.std.specs.Prelude.{ℕ, ◌+◌, ◌*◌, ◌/◌, ◌%◌, List, [], ◌∷◌, Option}
-use Rattle.std.specs.List.{flat_map, map, range_with_len, slice_get}
+use Rattle.std.specs.Prelude.{ℕ, ◌+◌, ◌*◌, ◌/◌, ◌%◌, List, [], ◌∷◌, map, Option}
+use Rattle.std.specs.List.{flat_map, range_with_len, slice_get}
 use Rattle.made_conference.specs.declared.bids.Bid.{Bid}
 use Rattle.made_conference.specs.declared.bids.Bid.TheVariants.{VeryHigh, High, Neutral, Low, VeryLow}
 use Rattle.made_conference.specs.declared.pairs.MadePair.{MadePair}

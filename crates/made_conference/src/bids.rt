@@ -14,6 +14,7 @@ pub enum Bid {
 }
 
 /// The bid that a drawn number from 0 to 5 picks, where it picks one.
+#[tactic(auto, unfolding(crate::specs::Pairs::picked_bid))]
 pub(crate) fn picked_bid(number: u32) -> Option<Bid>
     ensures { result ≡ picked_bid number }
 {

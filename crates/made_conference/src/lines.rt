@@ -1,5 +1,5 @@
 // The lines of the tables of a made conference, put together without taking memory.
-ghost use Rattle.std.specs.Prelude.{◌≡◌, ◌+◌, ◌≤◌, ◌++◌, ◌∷◌, length};
+ghost use Rattle.std.specs.Prelude.{◌≡◌, ◌+◌, ◌≤◌, ◌++◌, ◌∷◌, [], length};
 ghost use Rattle.text_lines.specs.Texts.{line_of};
 ghost use Rattle.made_conference.specs.Rows.{four_digits, last_digit, paper_id, reviewer_id, institution_id, value_text, paper_row, reviewer_row, value_row, bid_row};
 
@@ -13,6 +13,7 @@ fn last_digit(number: u32) -> u8
     b'0' + (number % 10) as u8
 }
 
+#[tactic(auto, unfolding(crate::specs::Rows::four_digits))]
 fn four_digits(number: u32) -> [u8; 4]
     ensures { result ≡ four_digits number }
 {
@@ -24,6 +25,7 @@ fn four_digits(number: u32) -> [u8; 4]
     ]
 }
 
+#[tactic(auto, unfolding(crate::specs::Rows::paper_id))]
 fn push_paper(line: &mut LineBuffer, paper: u32)
     requires { length line.old ≤ 100 }
     ensures text { line.new ≡ line.old ++ paper_id paper }
@@ -33,6 +35,7 @@ fn push_paper(line: &mut LineBuffer, paper: u32)
     line.push(&four_digits(paper));
 }
 
+#[tactic(auto, unfolding(crate::specs::Rows::reviewer_id))]
 fn push_reviewer(line: &mut LineBuffer, reviewer: u32)
     requires { length line.old ≤ 100 }
     ensures text { line.new ≡ line.old ++ reviewer_id reviewer }
@@ -42,6 +45,7 @@ fn push_reviewer(line: &mut LineBuffer, reviewer: u32)
     line.push(&four_digits(reviewer));
 }
 
+#[tactic(auto, unfolding(crate::specs::Rows::institution_id))]
 fn push_institution(line: &mut LineBuffer, number: u32)
     requires { length line.old ≤ 100 }
     ensures text { line.new ≡ line.old ++ institution_id number }
@@ -51,6 +55,7 @@ fn push_institution(line: &mut LineBuffer, number: u32)
     line.push_number(u64::from(number % 9));
 }
 
+#[tactic(auto, unfolding(crate::specs::Rows::value_text))]
 fn push_value(line: &mut LineBuffer, value: u32)
     requires { length line.old ≤ 100 }
     ensures text { line.new ≡ line.old ++ value_text value }

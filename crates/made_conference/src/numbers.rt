@@ -1,5 +1,5 @@
 // Pseudo-random numbers.
-ghost use Rattle.std.specs.Prelude.{◌≡◌};
+ghost use Rattle.std.specs.Prelude.{◌≡◌, ◌<◌, ◌^◌};
 ghost use Rattle.made_conference.specs.Numbers.{next_state, number_of, state_after};
 
 /// How many states there are.
@@ -13,6 +13,7 @@ pub(crate) struct Numbers {
 
 impl Numbers {
     /// The numbers of a seed, before the first.
+    #[tactic(auto, unfolding(crate::specs::Numbers::state_after))]
     pub(crate) fn new(seed: u64) -> Numbers
         ensures { result.state ≡ state_after seed 0 }
     {
@@ -30,7 +31,8 @@ impl Numbers {
 }
 
 fn next_state(state: u64) -> u64
-    ensures { result ≡ next_state state }
+    ensures value { result ≡ next_state state }
+    ensures small { result < 2 ^ 32 }
 {
     (state % STATES * 1_664_525 + 1_013_904_223) % STATES
 }
