@@ -7,6 +7,7 @@ ghost use Rattle.made_conference.specs.Rows.{value_row, bid_lines, paper_row, re
 ghost use Rattle.made_conference.specs.declared.bids.Bid.TheVariants.{VeryHigh, VeryLow};
 
 /// The first draws of seed 7, and what they pick.
+#[tactic(auto, unfolding(crate::specs::Numbers::next_state, crate::specs::Numbers::state_after, crate::specs::Pairs::picked_bid, crate::specs::Pairs::pairs_before, crate::specs::Pairs::made_pair))]
 pub fn worked_numbers()
     ensures first { drawn 7 0 ≡ 15648 }
     ensures second { drawn 7 1 ≡ 59866 }

@@ -14,6 +14,7 @@ pub const MOST_BLOCKS: u32 = 25;
 const SETTINGS: &[u8] =
     b"limit = 2\ncap = \"0.5\"\ndemand = 3\nleast = 0\ngreatest = 6\n[[source]]\nname = \"affinity\"\nkind = \"values\"\nweight = 70\n[[source]]\nname = \"bid\"\nkind = \"bids\"\nweight = 30\n";
 
+#[tactic(auto, unfolding(crate::specs::Tables::settings_text, text_lines::specs::Texts::lines_of, text_lines::specs::Texts::line_of))]
 fn settings_text(alloc: Global) -> Result<Vec<u8>, AllocError>
     ensures { IfOk result (λ text. text.items ≡ settings_text) }
 {
@@ -29,13 +30,14 @@ fn file(alloc: Global, name: &str, bytes: Vec<u8>) -> Result<MemoryFile, AllocEr
     })
 }
 
+#[tactic(auto, unfolding(crate::specs::Tables::made_files))]
 fn made_files(alloc: Global, seed: u64, size: u32) -> Result<Vec<MemoryFile>, AllocError>
     requires { size ≤ MOST_BLOCKS }
     ensures { IfOk result (λ files. files.items ≡ made_files seed size) }
 {
     let pairs = made_pairs(alloc, seed, size)?;
-    let papers = papers_text(alloc, size * BLOCK_PAPERS)?;
-    let reviewers = reviewers_text(alloc, size * BLOCK_REVIEWERS)?;
+    let papers = papers_text(alloc, BLOCK_PAPERS * size)?;
+    let reviewers = reviewers_text(alloc, BLOCK_REVIEWERS * size)?;
     let values = values_text(alloc, pairs.as_slice())?;
     let bids = bids_text(alloc, pairs.as_slice())?;
     let mut files = Vec::with_capacity(alloc, 5)?;

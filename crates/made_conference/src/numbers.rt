@@ -1,6 +1,6 @@
 // Pseudo-random numbers.
 ghost use Rattle.std.specs.Prelude.{◌≡◌, ◌<◌, ◌^◌};
-ghost use Rattle.made_conference.specs.Numbers.{next_state, number_of, state_after};
+ghost use Rattle.made_conference.specs.Numbers.{next_state, number_of};
 
 /// How many states there are.
 const STATES: u64 = 4_294_967_296;
@@ -13,9 +13,8 @@ pub(crate) struct Numbers {
 
 impl Numbers {
     /// The numbers of a seed, before the first.
-    #[tactic(auto, unfolding(crate::specs::Numbers::state_after))]
     pub(crate) fn new(seed: u64) -> Numbers
-        ensures { result.state ≡ state_after seed 0 }
+        ensures { result.state ≡ seed }
     {
         Numbers { state: seed }
     }

@@ -1,5 +1,6 @@
 // The pairs of a made conference, in the order in which their numbers are drawn.
 ghost use Rattle.std.specs.Prelude.{◌≡◌, ◌+◌, ◌*◌, ◌≤◌, ◌++◌, ℕ, IfOk, OnOk};
+ghost use Rattle.std.specs.List.{flat_map, range_with_len};
 ghost use Rattle.made_conference.specs.Numbers.{state_after};
 ghost use Rattle.made_conference.specs.Pairs.{made_pair, made_pairs, pairs_before, paper_pairs};
 
@@ -49,22 +50,31 @@ fn push_pairs(
     ensures pairs { OnOk result (pairs.new.items ≡ pairs.old.items ++ paper_pairs seed paper) }
     ensures state { OnOk result (numbers.new.state ≡ state_after seed (90 * (paper + 1))) }
 {
-    let first = paper / BLOCK_PAPERS * BLOCK_REVIEWERS;
+    let first = BLOCK_REVIEWERS * (paper / BLOCK_PAPERS);
     for reviewer in first..first + BLOCK_REVIEWERS {
         pairs.push(made_pair(numbers, paper, reviewer))?;
     }
     Ok(())
 }
 
+// The pairs of so many papers, from the first on.
+fn pairs_of(alloc: Global, mut numbers: Numbers, papers: u32) -> Result<Vec<MadePair>, AllocError>
+    ghost seed: { ℕ }
+    requires { numbers.state ≡ seed }
+    ensures { IfOk result (λ pairs. pairs.items ≡ flat_map (paper_pairs seed) (range_with_len 0 papers)) }
+{
+    let mut pairs = Vec::new(alloc);
+    for paper in 0..papers {
+        push_pairs(&mut numbers, paper, &mut pairs)?;
+    }
+    Ok(pairs)
+}
+
 /// All pairs of a made conference of so many blocks.
+#[tactic(auto, unfolding(crate::specs::Pairs::made_pairs))]
 pub(crate) fn made_pairs(alloc: Global, seed: u64, size: u32) -> Result<Vec<MadePair>, AllocError>
     requires { size ≤ 25 }
     ensures { IfOk result (λ pairs. pairs.items ≡ made_pairs seed size) }
 {
-    let mut numbers = Numbers::new(seed);
-    let mut pairs = Vec::new(alloc);
-    for paper in 0..size * BLOCK_PAPERS {
-        push_pairs(&mut numbers, paper, &mut pairs)?;
-    }
-    Ok(pairs)
+    pairs_of(alloc, Numbers::new(seed), BLOCK_PAPERS * size)
 }

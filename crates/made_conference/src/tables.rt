@@ -52,6 +52,7 @@ pub(crate) fn bids_text(alloc: Global, pairs: &[MadePair]) -> Result<Vec<u8>, Al
 }
 
 // Puts the line of a pair's bid behind the text, where it has one.
+#[tactic(auto, unfolding(crate::specs::Rows::bid_lines))]
 fn push_bid(text: &mut Vec<u8>, pair: &MadePair) -> Result<(), AllocError>
     ensures { OnOk result (text.new.items ≡ text.old.items ++ bid_lines pair.now) }
 {
