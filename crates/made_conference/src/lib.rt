@@ -1,0 +1,15 @@
+// The folder of a made conference: files that a seed and a size determine.
+#![tactic(auto)]
+
+mod bids;
+mod examples;
+mod folder;
+mod lines;
+mod numbers;
+mod pairs;
+mod tables;
+
+pub use bids::Bid;
+pub use examples::{worked_numbers, worked_rows};
+pub use folder::{MOST_BLOCKS, made_folder};
+pub use pairs::MadePair;
