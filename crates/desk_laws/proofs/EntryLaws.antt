@@ -36,19 +36,19 @@ repeat_brings P earlier command = either P (is_same_command earlier.command comm
 
 -- Looks
 
-job_brings : (P : Entry → Type 0) (H : History) (number : ℕ) (job : Option Job) → Brings P (job_look number job)
-job_brings P H number None = tt
-job_brings P H number (Some job) = tt
+job_brings : (P : Entry → Type 0) (number : ℕ) (job : Option Job) → Brings P (job_look number job)
+job_brings P number None = tt
+job_brings P number (Some job) = tt
 
-shown_brings : (P : Entry → Type 0) (H : History) (why : Refusal) (found : Option Certificate) → Brings P (shown why found)
-shown_brings P H why None = tt
-shown_brings P H why (Some certificate) = tt
+shown_brings : (P : Entry → Type 0) (why : Refusal) (found : Option Certificate) → Brings P (shown why found)
+shown_brings P why None = tt
+shown_brings P why (Some certificate) = tt
 
 decided_brings : (P : Entry → Type 0) (H : History) (job : Job) (outcome : Outcome) → Brings P (decided_look H job outcome)
 decided_brings P H job Waiting = tt
 decided_brings P H job Taken = tt
-decided_brings P H job (Certified level total) = shown_brings P H refusal.NotCertified (evidence H job)
-decided_brings P H job (Infeasible need room) = shown_brings P H refusal.NotCertified (evidence H job)
+decided_brings P H job (Certified level total) = shown_brings P refusal.NotCertified (evidence H job)
+decided_brings P H job (Infeasible need room) = shown_brings P refusal.NotCertified (evidence H job)
 decided_brings P H job (Stale later) = tt
 decided_brings P H job OutOfMemory = tt
 
@@ -58,26 +58,25 @@ answer_brings P H (Some job) = decided_brings P H job job.outcome
 
 publication_brings : (P : Entry → Type 0) (H : History) (publication : Option Publication) → Brings P (publication_look H publication)
 publication_brings P H None = tt
-publication_brings P H (Some publication) = shown_brings P H refusal.UnknownPublication (evidence_of H (job_of H publication.job))
+publication_brings P H (Some publication) = shown_brings P refusal.UnknownPublication (evidence_of H (job_of H publication.job))
 
-piece_brings : (P : Entry → Type 0) (H : History) (value : RulesValue) (piece : Option Piece) → Brings P (piece_look value piece)
-piece_brings P H value None = tt
-piece_brings P H value (Some piece) = tt
+piece_brings : (P : Entry → Type 0) (value : RulesValue) (piece : Option Piece) → Brings P (piece_look value piece)
+piece_brings P value None = tt
+piece_brings P value (Some piece) = tt
 
-pairs_brings : (P : Entry → Type 0) (H : History) (found : Option Certificate) (ticket : ℕ) → Brings P (pairs_look found ticket)
-pairs_brings P H None ticket = tt
-pairs_brings P H (Some certificate) ticket = piece_brings P H certificate.rules (drawn_piece certificate.answer ticket)
+pairs_brings : (P : Entry → Type 0) (found : Option Certificate) (ticket : ℕ) → Brings P (pairs_look found ticket)
+pairs_brings P None ticket = tt
+pairs_brings P (Some certificate) ticket = piece_brings P certificate.rules (drawn_piece certificate.answer ticket)
 
 ticket_brings : (P : Entry → Type 0) (H : History) (publication : Option Publication) (ticket : ℕ) → Brings P (ticket_look H publication ticket)
 ticket_brings P H None ticket = tt
 ticket_brings P H (Some publication) ticket =
-    either P (nat_le RULES_TICKETS ticket) (refused refusal.BadTicket) (pairs_look (evidence_of H (job_of H publication.job)) ticket) tt (pairs_brings P H (evidence_of H (job_of H publication.job)) ticket)
+    either P (nat_le RULES_TICKETS ticket) (refused refusal.BadTicket) (pairs_look (evidence_of H (job_of H publication.job)) ticket) tt (pairs_brings P (evidence_of H (job_of H publication.job)) ticket)
 
 pub look_brings : (P : Entry → Type 0) (H : History) (what : Look) → Brings P (look_step H what)
 look_brings P H look.Edition = tt
 look_brings P H look.Rules = tt
-look_brings P H (look.Job job) = job_brings P H job (job_of H job)
+look_brings P H (look.Job job) = job_brings P job (job_of H job)
 look_brings P H (look.Answer job) = answer_brings P H (job_of H job)
 look_brings P H (look.Publication number) = publication_brings P H (nth_of (publications H) number)
 look_brings P H (look.Ticket publication ticket) = ticket_brings P H (nth_of (publications H) publication) ticket
-

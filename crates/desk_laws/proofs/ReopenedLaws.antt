@@ -77,7 +77,7 @@ chair_named (chair ∷ others) name names is =
 
 -- The bytes of rows
 
-total : List (List ℕ) → ℕ
+abbrev total : List (List ℕ) → ℕ
 total [] = 0
 total (row ∷ given) = length row + total given
 
@@ -114,7 +114,7 @@ is_present now job outcome e =
     not_less job.edition now (refused_not (nat_lt job.edition now) (refusal.Stale now) (first_none (refuse_if (nat_lt job.edition now) (refusal.Stale now)) _ behind).0)
 
 -- such a job with its lottery, and the job that comes back
-record IsPublishable (H : History) (number : ℕ) : Type 0 where
+pub record IsPublishable (H : History) (number : ℕ) : Type 0 where
   pub job : Job
   pub back : Job
   pub winning : Winning

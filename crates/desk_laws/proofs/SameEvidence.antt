@@ -95,8 +95,8 @@ ended_here H R done place a b is =
 -- A publish
 
 -- what the newest entry brought is found at its place
-newest : (entry : Entry) (H : History) (brought : Option Certificate) → cond (eqb (length H) (length H)) brought (brought_at H (Some (length H))) ≡ brought
-newest entry H brought = ap (λ t. cond t brought (brought_at H (Some (length H)))) (eq-eqb (length H) (length H) refl)
+newest : (H : History) (brought : Option Certificate) → cond (eqb (length H) (length H)) brought (brought_at H (Some (length H))) ≡ brought
+newest H brought = ap (λ t. cond t brought (brought_at H (Some (length H)))) (eq-eqb (length H) (length H) refl)
 
 unread_alike : (H R : History) (caller : List ℕ) (number job k l : ℕ) (reply : Done) (shown : Certificate) (x y : Job) → IsWon x.outcome → evidence H x ≡ Some shown
     → IsShownAlike (Accepted caller number (Publish job) reply None ∷ H) (Accepted caller number (Publish job) reply (Some shown) ∷ R) (published None (length H) k x) (published (Some shown) (length R) l y)
@@ -104,7 +104,7 @@ unread_alike H R caller number job k l reply shown x y won here = record {
   won = won;
   shown = shown;
   here = brought_later (Accepted caller number (Publish job) reply None) H x.decided shown here;
-  there = newest (Accepted caller number (Publish job) reply (Some shown)) R (Some shown);
+  there = newest R (Some shown);
 }
 
 read_alike : (H R : History) (caller : List ℕ) (number job k l : ℕ) (reply : Done) (read : Certificate) (x y : Job) → IsWon (counted (Some read) x.outcome)
@@ -112,8 +112,8 @@ read_alike : (H R : History) (caller : List ℕ) (number job k l : ℕ) (reply :
 read_alike H R caller number job k l reply read x y won = record {
   won = won;
   shown = read;
-  here = newest (Accepted caller number (Publish job) reply (Some read)) H (Some read);
-  there = newest (Accepted caller number (Publish job) reply (Some read)) R (Some read);
+  here = newest H (Some read);
+  there = newest R (Some read);
 }
 
 -- a job that may be published has a lottery

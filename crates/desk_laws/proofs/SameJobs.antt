@@ -124,7 +124,7 @@ same_jobs (Accepted caller number (Publish job) reply read ∷ H) =
     pairs_with_nth (IsSameJob (edits H)) (published read (length H) (length (publications H) + 1)) (published (publishes H job read) (length (reopened H)) (length (publications (reopened H)) + 1))
     (jobs H) (jobs (reopened H)) job
     (λ x y found same. published_alike (edits H) read (publishes H job read) (length H) (length (reopened H)) (length (publications H) + 1) (length (publications (reopened H)) + 1) x y
-        (ap (λ (ps : List Publication). length ps + 1) (same_publications H)) same)
+    (ap (λ (ps : List Publication). length ps + 1) (same_publications H)) same)
     (same_jobs H)
 same_jobs (Accepted caller number (Draw publication text) reply read ∷ H) = same_jobs H
 same_jobs (Took bench job ∷ H) =
