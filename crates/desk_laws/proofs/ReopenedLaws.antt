@@ -124,7 +124,7 @@ pub record IsPublishable (H : History) (number : ℕ) : Type 0 where
   pub certified : IsCertified (rules_at H job.edition) job.mode winning
   pub spelled : ArePieces winning.lottery
   pub fresh : job.publication ≡ None
-  pub now : edits H ≤ job.edition
+  pub current : edits H ≤ job.edition
 
 backed_publishable : (chairs : List (List ℕ)) (H : History) (number : ℕ) → IsLegal chairs H → publish_refusal (edits H) None (job_of H number) ≡ None → IsBacked H (record { job = number; ticket = None }) → IsPublishable H number
 backed_publishable chairs H number legal right backed =
@@ -140,7 +140,7 @@ backed_publishable chairs H number legal right backed =
       certified = backed.certified;
       spelled = evidence_spelt H backed.job.decided _ (legal_spelt chairs H legal) backed.shown;
       fresh = unpublished_job (edits H) backed.job backed.job.outcome e;
-      now = is_present (edits H) backed.job backed.job.outcome e;
+      current = is_present (edits H) backed.job backed.job.outcome e;
     }
 
 publishable : (chairs : List (List ℕ)) (H : History) (number : ℕ) (job : Option Job) → IsLegal chairs H → job_of H number ≡ job → publish_refusal (edits H) None job ≡ None → IsPublishable H number
@@ -203,7 +203,7 @@ publish_alike H number is =
     ap (λ n. publish_refusal n (evidence_of H (job_of H number)) (job_of (reopened H) number)) (same_edits H)
     ∙ ap (λ (o : Option Certificate). publish_refusal (edits H) o (job_of (reopened H) number)) is.shown
     ∙ ap (λ (o : Option Job). publish_refusal (edits H) (Some (record { rules = rules_at H is.job.edition; answer = answer.Lottery is.winning })) o) is.comes
-    ∙ read_publish (edits H) is.back is.winning (subst (λ n. edits H ≤ n) (sym is.same.edition) is.now) (is.same.publication ∙ is.fresh) (is.same.waits is.fresh is.now)
+    ∙ read_publish (edits H) is.back is.winning (subst (λ n. edits H ≤ n) (sym is.same.edition) is.current) (is.same.publication ∙ is.fresh) (is.same.waits is.fresh is.current)
 
 own_alike : (H : History) (command : Command) → MayPublish H command → own_refusal H command None ≡ None → own_refusal (reopened H) command (read_back H command None) ≡ None
 own_alike H (Edit base edit) may right =
