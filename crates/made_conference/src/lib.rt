@@ -9,7 +9,6 @@ mod numbers;
 mod pairs;
 mod tables;
 
-pub use bids::Bid;
 pub use examples::{worked_numbers, worked_rows};
-pub use folder::{MOST_BLOCKS, made_folder};
-pub use pairs::MadePair;
+pub use folder::made_folder;
+pub use pairs::MOST_BLOCKS;
