@@ -8,20 +8,20 @@ use edge_io::{MemoryFile, MemoryFolder};
 use std::alloc::{AllocError, Global};
 
 /// The settings of each made conference.
-const SETTINGS: &[u8] = b"limit = 2
-cap = \"0.5\"
+const SETTINGS: &[u8] = br#"limit = 2
+cap = "0.5"
 demand = 3
 least = 0
 greatest = 6
 [[source]]
-name = \"affinity\"
-kind = \"values\"
+name = "affinity"
+kind = "values"
 weight = 70
 [[source]]
-name = \"bid\"
-kind = \"bids\"
+name = "bid"
+kind = "bids"
 weight = 30
-";
+"#;
 
 #[tactic(auto, unfolding(crate::specs::Tables::settings_text, text_lines::specs::Texts::lines_of, text_lines::specs::Texts::line_of))]
 fn settings_text(alloc: Global) -> Result<Vec<u8>, AllocError>

@@ -26,20 +26,20 @@ pub(crate) struct MadePair {
     pub bid: Option<Bid>,
 }
 
-// Draws the value of a pair, and then its bid.
+// Draws twice: the value of a pair, and then its bid.
 fn made_pair(numbers: &mut Numbers, paper: u32, reviewer: u32) -> MadePair
     ghost seed: { ℕ }
     requires { numbers.old.state ≡ state_after seed (2 * pairs_before paper reviewer) }
     ensures pair { result ≡ made_pair seed paper reviewer }
     ensures state { numbers.new.state ≡ state_after seed (2 * pairs_before paper reviewer + 2) }
 {
-    let value = numbers.draw() % 10_001;
-    let bid = picked_bid(numbers.draw() % 6);
+    let first = numbers.draw();
+    let second = numbers.draw();
     MadePair {
         paper,
         reviewer,
-        value,
-        bid,
+        value: first % 10_001,
+        bid: picked_bid(second % 6),
     }
 }
 
