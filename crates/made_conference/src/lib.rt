@@ -4,6 +4,7 @@
 mod bids;
 mod examples;
 mod folder;
+mod laws;
 mod lines;
 mod numbers;
 mod pairs;
@@ -11,4 +12,5 @@ mod tables;
 
 pub use examples::{worked_numbers, worked_rows};
 pub use folder::made_folder;
+pub use laws::pair_laws;
 pub use pairs::MOST_BLOCKS;
