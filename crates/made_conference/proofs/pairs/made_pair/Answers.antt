@@ -1,6 +1,5 @@
-use Rattle.std.proofs.Common.{◌≡◌, ◌∙◌, ap, refl}
-use Rattle.made_conference.specs.Numbers.{next_state, number_of}
-use Rattle.made_conference.specs.Pairs.{pairs_before}
+use Rattle.std.proofs.Common.{◌∙◌, ap}
+use Rattle.made_conference.specs.Numbers.{next_state}
 use Rattle.made_conference.proofs.PairLaws.{pair_is, state_behind}
 use Rattle.made_conference.proofs.pairs.made_pair.Goals as goal
 
