@@ -1,3 +1,4 @@
 mod NumberLaws
 mod PairLaws
 mod TableLaws
+mod OrderLaws

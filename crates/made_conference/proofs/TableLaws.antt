@@ -1,10 +1,10 @@
 -- The lines so far.
-use Rattle.std.proofs.Common.{◌≡◌, ℕ, ◌+◌, ◌<◌, List, [], ◌∷◌, ◌++◌, length, take, get_or, refl, sym, ap, ◌∙◌, arith, append_assoc}
+use Rattle.std.proofs.Common.{◌≡◌, ℕ, ◌+◌, ◌<◌, List, [], ◌∷◌, ◌++◌, length, take, get_or, refl, sym, ap, ◌∙◌}
 use Rattle.std.specs.List.{flat_map, range_with_len}
 use Rattle.std.proofs.lemmas.List.{append-nil, take_more}
 use Rattle.std.proofs.lemmas.List.Concat.{flat_map-append}
 use Rattle.text_lines.specs.Texts.{line_of, lines_of}
-use Rattle.made_conference.proofs.PairLaws.{range_more, flat_map_range_more}
+use Rattle.made_conference.proofs.PairLaws.{flat_map_range_more}
 
 -- a line for each item is the lines of all
 pub lines_are : {A : Type 0} (spell : A → List ℕ) (xs : List A) → lines_of spell xs ≡ flat_map (λ x. line_of (spell x)) xs

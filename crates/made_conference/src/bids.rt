@@ -5,7 +5,7 @@ ghost use Rattle.made_conference.specs.Rows.{bid_word};
 
 /// A bid of a reviewer for a paper.
 #[derive(Clone, Copy)]
-pub enum Bid {
+pub(crate) enum Bid {
     VeryHigh,
     High,
     Neutral,

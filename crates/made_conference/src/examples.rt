@@ -1,8 +1,8 @@
 // Worked examples, computed over the definitions. The functions have empty bodies: their clauses are the examples.
 
-ghost use Rattle.std.specs.Prelude.{◌≡◌, ◌++◌, ◌∷◌, [], None, Some, codes};
+ghost use Rattle.std.specs.Prelude.{◌≡◌, ◌∷◌, [], None, Some, codes};
 ghost use Rattle.made_conference.specs.Numbers.{drawn};
-ghost use Rattle.made_conference.specs.Pairs.{made_pair, pairs_before, picked_bid, block_reviewers};
+ghost use Rattle.made_conference.specs.Pairs.{made_pair, pairs_before, picked_bid};
 ghost use Rattle.made_conference.specs.Rows.{value_row, bid_lines, paper_row, reviewer_row, value_text};
 ghost use Rattle.made_conference.specs.declared.bids.Bid.TheVariants.{VeryHigh, VeryLow};
 

@@ -2,17 +2,26 @@
 ghost use Rattle.std.specs.Prelude.{◌≡◌, ◌≤◌, [], IfOk};
 ghost use Rattle.made_conference.specs.Tables.{made_files, settings_text};
 
-use crate::pairs::{BLOCK_PAPERS, BLOCK_REVIEWERS, made_pairs};
+use crate::pairs::{BLOCK_PAPERS, BLOCK_REVIEWERS, MOST_BLOCKS, made_pairs};
 use crate::tables::{bids_text, papers_text, reviewers_text, values_text};
 use edge_io::{MemoryFile, MemoryFolder};
 use std::alloc::{AllocError, Global};
 
-/// The most blocks of a made conference.
-pub const MOST_BLOCKS: u32 = 25;
-
 /// The settings of each made conference.
-const SETTINGS: &[u8] =
-    b"limit = 2\ncap = \"0.5\"\ndemand = 3\nleast = 0\ngreatest = 6\n[[source]]\nname = \"affinity\"\nkind = \"values\"\nweight = 70\n[[source]]\nname = \"bid\"\nkind = \"bids\"\nweight = 30\n";
+const SETTINGS: &[u8] = br#"limit = 2
+cap = "0.5"
+demand = 3
+least = 0
+greatest = 6
+[[source]]
+name = "affinity"
+kind = "values"
+weight = 70
+[[source]]
+name = "bid"
+kind = "bids"
+weight = 30
+"#;
 
 #[tactic(auto, unfolding(crate::specs::Tables::settings_text, text_lines::specs::Texts::lines_of, text_lines::specs::Texts::line_of))]
 fn settings_text(alloc: Global) -> Result<Vec<u8>, AllocError>

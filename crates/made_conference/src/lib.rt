@@ -4,12 +4,13 @@
 mod bids;
 mod examples;
 mod folder;
+mod laws;
 mod lines;
 mod numbers;
 mod pairs;
 mod tables;
 
-pub use bids::Bid;
 pub use examples::{worked_numbers, worked_rows};
-pub use folder::{MOST_BLOCKS, made_folder};
-pub use pairs::MadePair;
+pub use folder::made_folder;
+pub use laws::pair_laws;
+pub use pairs::MOST_BLOCKS;

@@ -8,6 +8,9 @@ use crate::bids::{Bid, picked_bid};
 use crate::numbers::Numbers;
 use std::alloc::{AllocError, Global};
 
+/// The most blocks of a made conference.
+pub const MOST_BLOCKS: u32 = 25;
+
 /// How many papers a block has.
 pub(crate) const BLOCK_PAPERS: u32 = 60;
 
@@ -16,26 +19,27 @@ pub(crate) const BLOCK_REVIEWERS: u32 = 45;
 
 /// A paper and a reviewer of its block, by their numbers, with a value in ten-thousandths and maybe a bid.
 #[derive(Clone, Copy)]
-pub struct MadePair {
+pub(crate) struct MadePair {
     pub paper: u32,
     pub reviewer: u32,
     pub value: u32,
     pub bid: Option<Bid>,
 }
 
+// Draws twice: the value of a pair, and then its bid.
 fn made_pair(numbers: &mut Numbers, paper: u32, reviewer: u32) -> MadePair
     ghost seed: { ℕ }
     requires { numbers.old.state ≡ state_after seed (2 * pairs_before paper reviewer) }
     ensures pair { result ≡ made_pair seed paper reviewer }
     ensures state { numbers.new.state ≡ state_after seed (2 * pairs_before paper reviewer + 2) }
 {
-    let value = numbers.draw() % 10_001;
-    let bid = picked_bid(numbers.draw() % 6);
+    let first = numbers.draw();
+    let second = numbers.draw();
     MadePair {
         paper,
         reviewer,
-        value,
-        bid,
+        value: first % 10_001,
+        bid: picked_bid(second % 6),
     }
 }
 
@@ -73,7 +77,7 @@ fn pairs_of(alloc: Global, mut numbers: Numbers, papers: u32) -> Result<Vec<Made
 /// All pairs of a made conference of so many blocks.
 #[tactic(auto, unfolding(crate::specs::Pairs::made_pairs))]
 pub(crate) fn made_pairs(alloc: Global, seed: u64, size: u32) -> Result<Vec<MadePair>, AllocError>
-    requires { size ≤ 25 }
+    requires { size ≤ MOST_BLOCKS }
     ensures { IfOk result (λ pairs. pairs.items ≡ made_pairs seed size) }
 {
     pairs_of(alloc, Numbers::new(seed), BLOCK_PAPERS * size)

@@ -1,4 +1,4 @@
-use Rattle.std.proofs.Common.{◌≡◌, ◌∙◌, ap, sym, refl, ◌++◌}
+use Rattle.std.proofs.Common.{◌∙◌, ap, sym, ◌++◌}
 use Rattle.made_conference.specs.Numbers.{state_after}
 use Rattle.made_conference.specs.Pairs.{paper_pairs}
 use Rattle.made_conference.proofs.PairLaws.{flat_map_range_more}

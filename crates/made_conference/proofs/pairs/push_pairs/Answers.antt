@@ -1,4 +1,4 @@
-use Rattle.std.proofs.Common.{◌≡◌, ℕ, ◌+◌, ◌-◌, ◌*◌, ◌≤◌, ◌<◌, ◌/◌, ◌∙◌, ap, sym, refl, arith}
+use Rattle.std.proofs.Common.{◌≡◌, ℕ, ◌+◌, ◌-◌, ◌*◌, ◌≤◌, ◌/◌, ◌∙◌, ap, sym, arith}
 use Rattle.made_conference.specs.Numbers.{state_after}
 use Rattle.made_conference.specs.Pairs.{made_pair, paper_pairs, pairs_before}
 use Rattle.made_conference.proofs.PairLaws.{pairs_are, items_more}

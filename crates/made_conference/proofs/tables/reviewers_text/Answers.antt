@@ -1,4 +1,4 @@
-use Rattle.std.proofs.Common.{◌≡◌, ◌∙◌, sym, ap, rules}
+use Rattle.std.proofs.Common.{◌∙◌, sym, rules}
 use Rattle.made_conference.specs.Rows.{reviewer_row}
 use Rattle.made_conference.specs.Tables.{reviewers_text}
 use Rattle.made_conference.proofs.TableLaws.{lines_none, text_more}

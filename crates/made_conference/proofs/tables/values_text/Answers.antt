@@ -1,4 +1,4 @@
-use Rattle.std.proofs.Common.{◌≡◌, ◌∙◌, sym, ap, refl, length, take}
+use Rattle.std.proofs.Common.{◌≡◌, ◌∙◌, sym, take}
 use Rattle.std.proofs.lemmas.List.{take_all}
 use Rattle.made_conference.specs.Rows.{value_row}
 use Rattle.made_conference.specs.Tables.{values_text}
