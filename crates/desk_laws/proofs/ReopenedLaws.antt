@@ -8,7 +8,6 @@ use Rattle.match_rules.specs.Answers.{Certified as IsCertified}
 use Rattle.match_rules.specs.First.{first_of_two}
 use Rattle.match_rules.specs.Pieces.{ArePieces}
 use Rattle.match_rules.specs.Rules.{RulesValue}
-use Rattle.match_rules.specs.declared.answer.Answer.{Answer}
 use Rattle.match_rules.specs.declared.answer.Answer.TheVariants as answer
 use Rattle.match_rules.specs.declared.answer.Mode.{Mode}
 use Rattle.match_rules.specs.declared.answer.Winning.{Winning}
@@ -30,7 +29,7 @@ use Rattle.desk_history.specs.declared.jobs.Publication.{Publication}
 use Rattle.desk_history.specs.declared.refusals.Refusal.{Refusal}
 use Rattle.desk_history.specs.declared.refusals.Refusal.TheVariants as refusal
 use Rattle.desk_history.specs.Outcomes.{Reads, after, grade_of}
-use Rattle.desk_history.specs.Histories.{History, commands, edits, evidence, job_of, jobs, nth_of, present, publications, put}
+use Rattle.desk_history.specs.Histories.{History, commands, edits, job_of, jobs, nth_of, present, put}
 use Rattle.desk_history.specs.Looks.{rules_at}
 use Rattle.desk_history.specs.Opened.{IsLegal, IsLotteryOf, IsReadWith, Opens, Replay, Replays}
 use Rattle.desk_history.specs.Refusals.{base_refusal, draw_refusal, edit_refusal, full_refusal, is_open, own_refusal, publish_refusal, published_refusal, publishing_refusal, refusal_of, refuse_if}
