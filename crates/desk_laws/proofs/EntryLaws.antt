@@ -1,12 +1,11 @@
 -- What the entries are that requests make: nothing that is looked at makes one.
-use Rattle.std.proofs.Common.{ℕ, Bool, true, false, cond, List, Option, None, Some, IfSome}
+use Rattle.std.proofs.Common.{ℕ, Bool, true, false, cond, Option, None, Some, IfSome}
 use Rattle.std.specs.Prelude.{nat_le}
 use Rattle.match_rules.specs.Rules.{RulesValue}
 use Rattle.match_rules.specs.declared.lottery.Piece.{Piece}
 use Rattle.match_rules.specs.declared.rules.TheConstants.{RULES_TICKETS}
 use Rattle.publication.specs.declared.certificate.Certificate.{Certificate}
 use Rattle.desk_history.specs.declared.entries.Entry.{Entry}
-use Rattle.desk_history.specs.declared.entries.Entry.TheVariants.{Released, Took}
 use Rattle.desk_history.specs.declared.jobs.Job.{Job}
 use Rattle.desk_history.specs.declared.jobs.Publication.{Publication}
 use Rattle.desk_history.specs.declared.jobs.Outcome.{Outcome}
@@ -15,11 +14,11 @@ use Rattle.desk_history.specs.declared.refusals.Refusal.{Refusal}
 use Rattle.desk_history.specs.declared.refusals.Refusal.TheVariants as refusal
 use Rattle.desk_history.specs.declared.requests.Look.{Look}
 use Rattle.desk_history.specs.declared.requests.Look.TheVariants as look
-use Rattle.desk_history.specs.Histories.{Earlier, History, evidence, job_of, jobs, nth_of, publications}
+use Rattle.desk_history.specs.Histories.{Earlier, History, evidence, job_of, nth_of, publications}
 use Rattle.desk_history.specs.Looks.{Step, answer_look, decided_look, drawn_piece, job_look, look_step, pairs_look, piece_look, publication_look, refused, shown, ticket_look, told}
 use Rattle.desk_history.specs.Rows.{evidence_of}
 use Rattle.desk_history.specs.SameCommands.{is_same_command}
-use Rattle.desk_history.specs.Steps.{answered_by, first_waiting, release_at, repeat_step, take_at, take_first}
+use Rattle.desk_history.specs.Steps.{answered_by, repeat_step}
 use Rattle.desk_keeper.specs.declared.words.Command.{Command}
 
 -- the entry of the step, where it has one, is such

@@ -1,8 +1,7 @@
 -- What holds of an item of a list holds of that of a changed list at its place.
 use Rattle.std.proofs.Common.{◌≡◌, ℕ, ◌-◌, Bool, true, false, cond, eqb, List, [], ◌∷◌, ◌++◌, map, set, Option, None, Some, refl, subst, zero, suc}
 use Rattle.std.specs.List.{slice_get}
-use Rattle.desk_history.specs.declared.jobs.Job.{Job}
-use Rattle.desk_history.specs.Histories.{nth_of, with_at, with_held, with_nth}
+use Rattle.desk_history.specs.Histories.{nth_of, with_at, with_nth}
 use Rattle.desk_laws.proofs.EvidenceLaws.{none_some}
 
 abbrev pub IfThere : {A : Type 0} → Option A → (A → Type 0) → Type 0

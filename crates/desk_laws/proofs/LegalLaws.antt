@@ -1,5 +1,5 @@
 -- In a legal history each entry brings what is right, so each job with an answer has evidence.
-use Rattle.std.proofs.Common.{◌≡◌, ℕ, ◌+◌, Bool, true, false, cond, eqb, List, [], ◌∷◌, length, All, get_or, Option, None, Some, IfSome, refl, subst, arith, ap, sym, ◌∙◌, inl, inr, ne_eqb}
+use Rattle.std.proofs.Common.{◌≡◌, ℕ, ◌+◌, cond, eqb, List, [], ◌∷◌, length, All, get_or, Option, None, Some, IfSome, refl, subst, arith, ap, sym, ◌∙◌, inl, inr, ne_eqb}
 use Rattle.std.proofs.lemmas.List.Elements.{All-map, All-append}
 use Rattle.std.proofs.lemmas.Bool.{cases_eq}
 use Rattle.match_rules.specs.First.{first_of_two}
@@ -11,9 +11,6 @@ use Rattle.match_rules.specs.declared.answer.Answer.{Answer}
 use Rattle.match_rules.specs.declared.answer.Answer.TheVariants as answer
 use Rattle.match_rules.specs.declared.answer.Mode.{Mode}
 use Rattle.match_rules.specs.declared.answer.Winning.{Winning}
-use Rattle.match_rules.specs.declared.lottery.Piece.{Piece}
-use Rattle.match_rules.specs.declared.rules.TheConstants.{RULES_TICKETS}
-use Rattle.std.specs.Prelude.{nat_le}
 use Rattle.dual_check.proofs.PriceLaws.{best_at_bound}
 use Rattle.publication.specs.Certificates.{IsCertificate, IsSpelled}
 use Rattle.publication.specs.declared.certificate.Certificate.{Certificate}
@@ -24,23 +21,18 @@ use Rattle.desk_history.specs.declared.entries.Done.{Done}
 use Rattle.desk_history.specs.declared.entries.Entry.{Entry}
 use Rattle.desk_history.specs.declared.entries.Entry.TheVariants.{Accepted}
 use Rattle.desk_history.specs.declared.jobs.Job.{Job}
-use Rattle.desk_history.specs.declared.jobs.Publication.{Publication}
 use Rattle.desk_history.specs.declared.jobs.Outcome.{Outcome}
 use Rattle.desk_history.specs.declared.jobs.Outcome.TheVariants.{Waiting, Taken, Certified, Infeasible, Stale, OutOfMemory}
 use Rattle.desk_history.specs.declared.refusals.Refusal.{Refusal}
 use Rattle.desk_history.specs.declared.refusals.Refusal.TheVariants as refusal
-use Rattle.desk_history.specs.declared.requests.Look.{Look}
-use Rattle.desk_history.specs.declared.requests.Look.TheVariants as look
 use Rattle.desk_history.specs.declared.requests.Request.{Request}
 use Rattle.desk_history.specs.declared.requests.Request.TheVariants as request
 use Rattle.desk_history.specs.declared.requests.Work.{Work}
 use Rattle.desk_history.specs.Outcomes.{Edits, after}
-use Rattle.desk_history.specs.Histories.{Earlier, History, changed, edits, evidence, held, job_of, jobs, kept, new_job, nth_of, publications, published}
-use Rattle.desk_history.specs.Looks.{Step, answer_look, decided_look, drawn_piece, job_look, look_step, pairs_look, piece_look, publication_look, refused, rules_at, shown, ticket_look, told}
+use Rattle.desk_history.specs.Histories.{Earlier, History, changed, edits, held, job_of, jobs, kept, new_job, publications, published}
+use Rattle.desk_history.specs.Looks.{Step, look_step, refused, rules_at}
 use Rattle.desk_history.specs.Opened.{IsLegal, IsLotteryOf, IsReadWith, Makes, Replay, Replays}
 use Rattle.desk_history.specs.Refusals.{counted, is_open, is_without, own_refusal, publish_refusal, published_refusal, publishing_refusal, refusal_of, refuse_if}
-use Rattle.desk_history.specs.Rows.{evidence_of}
-use Rattle.desk_history.specs.SameCommands.{is_same_command}
 use Rattle.desk_history.specs.Steps.{IsRight, IsWorkFor, MayAsk, accepted, answered_by, command_step, done_of, finish_job, first_waiting, holds, is_chair, made, numbered_step, refused_or, release_at, step, take_at, take_first}
 use Rattle.desk_laws.specs.Evidence.{AnsweredAreShown, IfAnswered}
 use Rattle.desk_laws.proofs.EntryLaws.{Brings, either, look_brings, repeat_brings}

@@ -1,5 +1,5 @@
 -- Two lists whose items at the same place are related.
-use Rattle.std.proofs.Common.{◌≡◌, ◌∙◌, ℕ, ◌+◌, ◌-◌, ◌<◌, Bool, true, false, cond, eqb, List, [], ◌∷◌, ◌++◌, length, map, All, Option, None, Some, refl, subst, arith, ap, sym, zero, suc}
+use Rattle.std.proofs.Common.{◌≡◌, ℕ, ◌-◌, Bool, true, false, cond, eqb, List, [], ◌∷◌, ◌++◌, length, map, All, Option, None, Some, refl, subst, arith, ap, sym, zero, suc}
 use Rattle.std.specs.Prelude.{⊤}
 use Rattle.std.specs.List.{slice_get}
 use Rattle.desk_history.specs.Histories.{nth_of, with_at, with_held, with_nth}

@@ -1,6 +1,6 @@
 -- The rows of a legal history open the history that comes back.
 use Rattle.std.proofs.Common.{◌≡◌, ◌∙◌, ℕ, ◌+◌, ◌≤◌, ◌||◌, Bool, true, false, List, [], ◌∷◌, ◌++◌, length, Option, None, Some, refl, subst, arith, ap, sym, suc, inl, inr}
-use Rattle.std.specs.Prelude.{⊤, bytes_eq, nat_lt}
+use Rattle.std.specs.Prelude.{ℤ, ⊤, bytes_eq, nat_lt}
 use Rattle.std.proofs.lemmas.Bool.{false≢true}
 use Rattle.std.proofs.lemmas.Bool.Decides.{nat_tests}
 use Rattle.std.proofs.lemmas.Slice.Eq.{bytes_eq-Decides}
@@ -8,7 +8,6 @@ use Rattle.match_rules.specs.Answers.{Certified as IsCertified}
 use Rattle.match_rules.specs.First.{first_of_two}
 use Rattle.match_rules.specs.Pieces.{ArePieces}
 use Rattle.match_rules.specs.Rules.{RulesValue}
-use Rattle.match_rules.specs.declared.answer.Answer.{Answer}
 use Rattle.match_rules.specs.declared.answer.Answer.TheVariants as answer
 use Rattle.match_rules.specs.declared.answer.Mode.{Mode}
 use Rattle.match_rules.specs.declared.answer.Winning.{Winning}
@@ -29,8 +28,8 @@ use Rattle.desk_history.specs.declared.jobs.Outcome.TheVariants.{Certified, Wait
 use Rattle.desk_history.specs.declared.jobs.Publication.{Publication}
 use Rattle.desk_history.specs.declared.refusals.Refusal.{Refusal}
 use Rattle.desk_history.specs.declared.refusals.Refusal.TheVariants as refusal
-use Rattle.desk_history.specs.Outcomes.{Reads, after}
-use Rattle.desk_history.specs.Histories.{History, commands, edits, evidence, job_of, jobs, nth_of, present, publications, put}
+use Rattle.desk_history.specs.Outcomes.{Reads, after, grade_of}
+use Rattle.desk_history.specs.Histories.{History, commands, edits, job_of, jobs, nth_of, present, put}
 use Rattle.desk_history.specs.Looks.{rules_at}
 use Rattle.desk_history.specs.Opened.{IsLegal, IsLotteryOf, IsReadWith, Opens, Replay, Replays}
 use Rattle.desk_history.specs.Refusals.{base_refusal, draw_refusal, edit_refusal, full_refusal, is_open, own_refusal, publish_refusal, published_refusal, publishing_refusal, refusal_of, refuse_if}
@@ -151,13 +150,13 @@ publishable chairs H number (Some job) legal found right =
     (backed_job H (record { job = number; ticket = None }) job found (won_publish H number None job found whole) (legal_sound chairs H legal))
 
 -- a certified job of the present edition without a publication may be published
-accepted_publish : (now : ℕ) (job : Job) (grade : Grade) (sum : ℕ) → now ≤ job.edition → job.publication ≡ None → publishing_refusal now job (Certified grade sum) ≡ None
+accepted_publish : (now : ℕ) (job : Job) (grade : Grade) (sum : ℤ) → now ≤ job.edition → job.publication ≡ None → publishing_refusal now job (Certified grade sum) ≡ None
 accepted_publish now job grade sum le none =
     ap (λ (t : Bool). first_of_two (refuse_if t (refusal.Stale now)) (published_refusal job.publication)) (is_not_less job.edition now le) ∙ ap published_refusal none
 
 read_publish : (now : ℕ) (job : Job) (winning : Winning) → now ≤ job.edition → job.publication ≡ None → job.outcome ≡ Waiting → publishing_refusal now job (after (Reads (answer.Lottery winning)) job.outcome) ≡ None
 read_publish now job winning le none waits =
-    ap (λ (o : Outcome). publishing_refusal now job (after (Reads (answer.Lottery winning)) o)) waits ∙ accepted_publish now job _ winning.total le none
+    ap (λ (o : Outcome). publishing_refusal now job (after (Reads (answer.Lottery winning)) o)) waits ∙ accepted_publish now job (grade_of winning.level) winning.total le none
 
 -- Each command with what its row brings
 

@@ -1,5 +1,5 @@
 -- A published job and the one that comes back have the same evidence.
-use Rattle.std.proofs.Common.{◌≡◌, ◌∙◌, ℕ, ◌+◌, ◌<◌, Bool, cond, eqb, List, [], ◌∷◌, length, All, Option, None, Some, refl, subst, ap, sym, eq-eqb, inl, inr}
+use Rattle.std.proofs.Common.{◌≡◌, ◌∙◌, ℕ, ◌+◌, ◌<◌, cond, eqb, List, [], ◌∷◌, length, All, Option, None, Some, refl, subst, ap, sym, eq-eqb, inl, inr}
 use Rattle.std.specs.Prelude.{⊤}
 use Rattle.publication.specs.declared.certificate.Certificate.{Certificate}
 use Rattle.desk_keeper.specs.declared.words.Command.TheVariants.{Edit, Submit, Publish, Draw}

@@ -1,8 +1,7 @@
 -- A history and the one that comes back from its rows have the same commands, editions and publications, and jobs that are alike.
-use Rattle.std.proofs.Common.{◌≡◌, ◌∙◌, ℕ, ◌+◌, ◌≤◌, Bool, cond, List, [], ◌∷◌, ◌++◌, length, Option, None, Some, refl, arith, ap, sym}
+use Rattle.std.proofs.Common.{◌≡◌, ◌∙◌, ℕ, ◌+◌, ◌≤◌, cond, List, [], ◌∷◌, ◌++◌, length, Option, None, Some, refl, arith, ap, sym}
 use Rattle.std.specs.Prelude.{◌==◌, ◌&&◌, bytes_eq, nat_lt}
 use Rattle.match_rules.specs.declared.rules.TheConstants.{RULES_TICKETS}
-use Rattle.match_rules.specs.Rules.{RulesValue}
 use Rattle.publication.specs.Draws.{ticket_of}
 use Rattle.publication.specs.declared.certificate.Certificate.{Certificate}
 use Rattle.venue_rules.specs.Venues.{VenueValue}
