@@ -3,5 +3,5 @@ mod RefusalLaws
 mod LotteryLaws
 mod PublishLaws
 mod CommandLaws
-mod RowLaws
+pub mod RowLaws
 mod FrontLaws

@@ -1,5 +1,5 @@
 -- What a step leaves of a desk: a legal history, and rows that aren't too many bytes.
-use Rattle.std.proofs.Common.{◌≡◌, ◌+◌, ◌≤◌, ◌∷◌, ◌||◌, [], ℕ, Bool, true, false, cond, List, Option, None, Some, IfSome, Result, Ok, Err, IsErrOf, Vec, vec_len, vec_capacity, length, reverse, refl, subst, arith, ap, sym, inr, bytes_eq, suc}
+use Rattle.std.proofs.Common.{◌≡◌, ◌+◌, ◌≤◌, ◌<◌, ◌∷◌, ◌||◌, [], ℕ, Bool, true, false, cond, List, Option, None, Some, IfSome, Result, Ok, Err, IsErrOf, Vec, vec_len, vec_capacity, get_or, length, reverse, refl, subst, arith, ap, sym, inr, bytes_eq, suc}
 use Rattle.std.proofs.lemmas.Bool.{false≢true}
 use Rattle.std.proofs.lemmas.Slice.Eq.{bytes_eq-Decides}
 use Rattle.std.specs.Prelude.{nat_le, nat_lt}
@@ -24,9 +24,10 @@ use Rattle.desk_history.specs.Opened.{IsLegal}
 use Rattle.desk_history.specs.Refusals.{full_refusal, own_refusal, refusal_of, refuse_if}
 use Rattle.desk_history.specs.Rows.{bytes, row_behind, rows}
 use Rattle.desk_history.specs.SameCommands.{is_same_command}
-use Rattle.desk_history.specs.Steps.{AcceptsCommand, Explains, MayAsk, accepted, answered_by, command_step, done_of, finish_job, finish_step, first_waiting, holds, is_chair, made, numbered_step, refused_or, release_at, release_step, step, take_at, take_first, take_step, with_entry}
+use Rattle.desk_history.specs.Steps.{AcceptsCommand, Explains, IsTyped, MayAsk, accepted, answered_by, command_step, done_of, finish_job, finish_step, first_waiting, holds, is_chair, made, numbered_step, refused_or, release_at, release_step, step, take_at, take_first, take_step, with_entry}
 use Rattle.desk_history.specs.Tables.{AreTables}
-use Rattle.job_desk.specs.Desks.{AreNames, IsDesk}
+use Rattle.desk_laws.specs.Reopened.{AreNames}
+use Rattle.job_desk.specs.Desks.{IsDesk}
 use Rattle.job_desk.specs.Looking.{IsTold}
 use Rattle.desk_laws.proofs.EvidenceLaws.{none_some}
 use Rattle.desk_laws.proofs.LegalLaws.{first_none}
@@ -137,14 +138,14 @@ few_bytes chairs H its (Err refusal) next few does = subst (λ (h : History). by
 
 -- Legal histories
 
-entered : (chairs : List (List ℕ)) (H : History) (request : Request) (entry : Option Entry) → (step chairs H request).entry ≡ entry → IsLegal chairs H → MayAsk H request → IsLegal chairs (with_entry entry H)
-entered chairs H request None e legal may = legal
-entered chairs H request (Some entry) e legal may = inr (legal, record { request = request; may = may; entry = e })
+entered : (chairs : List (List ℕ)) (H : History) (request : Request) (entry : Option Entry) → (step chairs H request).entry ≡ entry → IsLegal chairs H → IsTyped request → MayAsk H request → IsLegal chairs (with_entry entry H)
+entered chairs H request None e legal typed may = legal
+entered chairs H request (Some entry) e legal typed may = inr (legal, record { request = request; typed = typed; may = may; entry = e })
 
 -- a step leads from a legal history to a legal one
-pub legal_next : (chairs : List (List ℕ)) (H : History) (request : Request) (answer : Result Answered Refusal) (next : History) → IsLegal chairs H → MayAsk H request → Does (step chairs H request) H answer next → IsLegal chairs next
-legal_next chairs H request (Ok reply) next legal may does = subst (IsLegal chairs) (sym does.1) (entered chairs H request (step chairs H request).entry refl legal may)
-legal_next chairs H request (Err refusal) next legal may does = subst (IsLegal chairs) (sym does.1) legal
+pub legal_next : (chairs : List (List ℕ)) (H : History) (request : Request) (answer : Result Answered Refusal) (next : History) → IsLegal chairs H → IsTyped request → MayAsk H request → Does (step chairs H request) H answer next → IsLegal chairs next
+legal_next chairs H request (Ok reply) next legal typed may does = subst (IsLegal chairs) (sym does.1) (entered chairs H request (step chairs H request).entry refl legal typed may)
+legal_next chairs H request (Err refusal) next legal typed may does = subst (IsLegal chairs) (sym does.1) legal
 
 -- Chairs
 
@@ -164,34 +165,42 @@ few_before chairs entries tables desk = subst (λ n. n ≤ MOST_ROW_BYTES) desk.
 
 -- a step leads from the parts of a desk to parts of one
 pub desk_next : (chairs : List (List ℕ)) (entries : Vec Entry Global) (tables : Tables) (request : Request) (answer : Result Answered Refusal) (more : Vec Entry Global) (new : Tables)
-    → IsDesk chairs entries tables → MayAsk (history_of entries) request → Does (step chairs (history_of entries) request) (history_of entries) answer (history_of more)
+    → IsDesk chairs entries tables → IsTyped request → MayAsk (history_of entries) request → Does (step chairs (history_of entries) request) (history_of entries) answer (history_of more)
     → AreKept more new → bytes (history_of more) ≤ MOST_ROW_BYTES → IsDesk chairs more new
-desk_next chairs entries tables request answer more new desk may does kept few = record {
+desk_next chairs entries tables request answer more new desk typed may does kept few = record {
   names = desk.names;
-  legal = legal_next chairs (history_of entries) request answer (history_of more) desk.legal may does;
+  legal = legal_next chairs (history_of entries) request answer (history_of more) desk.legal typed may does;
   kept = kept;
   bytes = subst (λ n. n ≤ MOST_ROW_BYTES) (sym kept.are.bytes) few;
 }
 
 -- a step that accepts no command leaves the rows, too
 pub bench_next : (chairs : List (List ℕ)) (entries : Vec Entry Global) (tables : Tables) (request : Request) (answer : Result Answered Refusal) (more : Vec Entry Global) (new : Tables)
-    → IsDesk chairs entries tables → MayAsk (history_of entries) request → IsQuiet (step chairs (history_of entries) request)
+    → IsDesk chairs entries tables → IsTyped request → MayAsk (history_of entries) request → IsQuiet (step chairs (history_of entries) request)
     → Does (step chairs (history_of entries) request) (history_of entries) answer (history_of more) → AreKept more new → IsDesk chairs more new
-bench_next chairs entries tables request answer more new desk may quiet does kept =
-    desk_next chairs entries tables request answer more new desk may does kept
+bench_next chairs entries tables request answer more new desk typed may quiet does kept =
+    desk_next chairs entries tables request answer more new desk typed may does kept
     (subst (λ n. n ≤ MOST_ROW_BYTES) (sym (rows_stay (step chairs (history_of entries) request) (history_of entries) answer (history_of more) quiet does).1) (few_before chairs entries tables desk))
 
 pub command_next : (chairs : List (List ℕ)) (entries : Vec Entry Global) (tables : Tables) (its : Named) (answer : Result Answered Refusal) (more : Vec Entry Global) (new : Tables)
-    → IsDesk chairs entries tables → MayAsk (history_of entries) (Do its) → Does (step chairs (history_of entries) (Do its)) (history_of entries) answer (history_of more)
+    → IsDesk chairs entries tables → IsTyped (Do its) → MayAsk (history_of entries) (Do its) → Does (step chairs (history_of entries) (Do its)) (history_of entries) answer (history_of more)
     → AreKept more new → IsDesk chairs more new
-command_next chairs entries tables its answer more new desk may does kept =
-    desk_next chairs entries tables (Do its) answer more new desk may does kept (few_bytes chairs (history_of entries) its answer (history_of more) (few_before chairs entries tables desk) does)
+command_next chairs entries tables its answer more new desk typed may does kept =
+    desk_next chairs entries tables (Do its) answer more new desk typed may does kept (few_bytes chairs (history_of entries) its answer (history_of more) (few_before chairs entries tables desk) does)
+
+-- without entries no bench has a job
+no_bench : (benches : List (Option ℕ)) → ((bench : ℕ) → bench < length benches → get_or benches bench None ≡ None) → full benches ≡ 0
+no_bench [] none = refl
+no_bench (None ∷ benches) none = no_bench benches (λ bench lt. none (suc bench) (omega (arith, lt)))
+no_bench (Some job ∷ benches) none = none_some job (sym (none 0 (omega arith)))
 
 -- a desk at which nothing was done
-pub new_desk : (chairs : List (List ℕ)) (entries : Vec Entry Global) (tables : Tables) → AreNames chairs → entries.items ≡ [] → AreTables [] tables → vec_len entries + full tables.benches ≤ vec_capacity entries → IsDesk chairs entries tables
-new_desk chairs entries tables names none are room = record {
-  names = names;
-  legal = subst (λ (items : List Entry). IsLegal chairs (reverse items)) (sym none) tt;
-  kept = record { are = subst (λ (items : List Entry). AreTables (reverse items) tables) (sym none) are; room = room };
-  bytes = subst (λ n. n ≤ MOST_ROW_BYTES) (sym are.bytes) (omega arith);
-}
+pub new_desk : (chairs : List (List ℕ)) (entries : Vec Entry Global) (tables : Tables) → AreNames chairs → entries.items ≡ [] → vec_len entries ≡ 0 → AreTables [] tables → IsDesk chairs entries tables
+new_desk chairs entries tables names none size are =
+    let free : full tables.benches ≡ 0 = no_bench tables.benches (λ bench lt. are.benches bench (subst (λ n. bench < n) are.bench_count lt)) in
+    record {
+      names = names;
+      legal = subst (λ (items : List Entry). IsLegal chairs (reverse items)) (sym none) tt;
+      kept = record { are = subst (λ (items : List Entry). AreTables (reverse items) tables) (sym none) are; room = omega (arith, free, size) };
+      bytes = subst (λ n. n ≤ MOST_ROW_BYTES) (sym are.bytes) (omega arith);
+    }

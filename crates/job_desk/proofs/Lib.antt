@@ -1,5 +1,4 @@
 mod BroughtLaws
-mod EditLaws
 mod DeskLaws
 mod LookLaws
 mod PublishLaws

@@ -1,19 +1,15 @@
 -- The row of a publish.
-use Rattle.std.proofs.Common.{◌≡◌, ◌+◌, ◌∷◌, ◌∙◌, ℕ, List, Vec, Option, None, Result, Ok, Err, length, ap, subst, sym}
+use Rattle.std.proofs.Common.{◌≡◌, ◌+◌, ◌∙◌, ℕ, List, Vec, Option, None, Result, Ok, Err, length, ap, subst, sym}
 use Rattle.std.specs.declared.alloc.Global.{Global}
 use Rattle.match_rules.specs.First.{first_of_two}
 use Rattle.desk_keeper.specs.Rows.{row_of}
 use Rattle.desk_keeper.specs.declared.words.Command.{Command}
 use Rattle.desk_keeper.specs.declared.words.Command.TheVariants.{Publish}
 use Rattle.desk_keeper.specs.declared.words.Named.{Named}
-use Rattle.desk_history.specs.declared.entries.Done.{Done}
-use Rattle.desk_history.specs.declared.entries.Entry.TheVariants.{Accepted}
 use Rattle.desk_history.specs.declared.refusals.Refusal.{Refusal}
-use Rattle.desk_history.specs.declared.tables.Tables.{Tables}
 use Rattle.desk_history.specs.Histories.{History, commands, edits, job_of}
 use Rattle.desk_history.specs.Refusals.{IsDue, full_refusal, own_refusal, publish_refusal, refusal_of}
 use Rattle.desk_history.specs.Rows.{bytes, lottery_of, publishes, row_behind, text_of}
-use Rattle.desk_history.specs.Tables.{AreTables}
 use Rattle.job_desk.specs.Keeping.{AnswersCommand, AnswersRow}
 
 -- what is due for a command that isn't refused itself, with the row that was made
@@ -33,9 +29,3 @@ publish_row H its job count size lottery result is right text counts sizes so =
     let own : own_refusal H its.command None ≡ None = ap (λ (c : Command). own_refusal H c None) is ∙ right in
     let row : row_of its lottery ≡ row_behind H its None = ap (row_of its) (text ∙ sym (ap (λ (c : Command). lottery_of H c None) is)) in
     answers H its count size (row_of its lottery) result (due_full H its count size (row_of its lottery) own counts sizes row) row so
-
--- the tables behind a publish are those behind its entry
-pub published_tables : (H : History) (its : Named) (job : ℕ) (new : Tables) {reply : Done} (next : History) → next ≡ Accepted its.caller its.number its.command reply None ∷ H → its.command ≡ Publish job
-    → ((said : Done) → AreTables (Accepted its.caller its.number (Publish job) said None ∷ H) new) → AreTables next new
-published_tables H its job new {reply = reply} next is command made =
-    subst (λ (h : History). AreTables h new) (sym (is ∙ ap (λ (c : Command). Accepted its.caller its.number c reply None ∷ H) command)) (made reply)

@@ -1,12 +1,11 @@
 -- The desk: its chairs and its history.
-use Rattle.std.specs.Prelude.{◌≡◌, ℕ, ◌+◌, ◌≤◌, ◌==◌, Bool, true, false, List, All, Option, Vec, drop, reverse, ⊤}
+use Rattle.std.specs.Prelude.{◌≡◌, ℕ, ◌+◌, ◌≤◌, ◌==◌, Bool, false, List, Option, Vec, drop, reverse, ⊤}
 use Rattle.std.specs.List.{position}
 use Rattle.std.specs.Option.{option_map}
 use Rattle.std.specs.declared.alloc.Global.{Global}
 use Rattle.command_index.specs.declared.index.CommandIndex.{CommandIndex}
 use Rattle.command_index.specs.Maps.{place_at}
 use Rattle.command_index.specs.Places.{IsIndexOf}
-use Rattle.desk_keeper.specs.Names.{is_chair_name}
 use Rattle.desk_history.specs.declared.entries.Entry.{Entry}
 use Rattle.desk_history.specs.declared.entries.Entry.TheVariants.{Ended, Released}
 use Rattle.desk_history.specs.declared.refusals.TheConstants.{MOST_ROW_BYTES}
@@ -16,14 +15,12 @@ use Rattle.desk_history.specs.declared.tables.Tables.{Tables}
 use Rattle.desk_history.specs.Courses.{AreKept, history_of}
 use Rattle.desk_history.specs.Histories.{History}
 use Rattle.desk_history.specs.Opened.{IsLegal}
+use Rattle.desk_laws.specs.Reopened.{AreNames}
 
 -- the names of the chairs, and what was done
 pub record DeskValue : Type 0 where
   pub chairs : List (List ℕ)
   pub history : History
-
-abbrev pub AreNames : List (List ℕ) → Type 0
-AreNames chairs = All (λ name. is_chair_name name ≡ true) chairs
 
 -- the parts of a desk: chairs with names, a legal history, and its tables
 pub record IsDesk (chairs : List (List ℕ)) (entries : Vec Entry Global) (tables : Tables) : Type 0 where

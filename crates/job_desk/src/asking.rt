@@ -14,6 +14,7 @@ ghost use Rattle.command_index.specs.Places.{IsIndexOf};
 
 use crate::asked_looks::look;
 use crate::commands::command;
+use crate::typed::is_typed;
 use command_index::CommandIndex;
 use desk_history::{Answered, Entry, Look, Refusal, Request, Tables, finish, release, take};
 use desk_keeper::{Keeper, Name, Named};
@@ -95,6 +96,7 @@ pub fn ask<P: Keeper>(
     ensures fault { IsErrOf result Refusal.KeeperFault → Rose (P.faults keeper.old) (P.faults keeper.new) }
     ensures ends { IsEnd request → ¬ (IsErrOf result Refusal.Memory) }
 {
+    is_typed(&request);
     match request {
         Request::Do(named) => ask_command(alloc, keeper, chairs, index, entries, tables, named),
         Request::Look { caller, what } => ask_look(alloc, chairs, entries, tables, caller, what),

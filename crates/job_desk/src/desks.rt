@@ -1,28 +1,30 @@
 // The desk.
 
-ghost use Rattle.std.specs.Prelude.{◌≡◌, ◌≤◌, ◌<◌, ◌^◌, [], IfOk, IsErrOf, length};
+ghost use Rattle.std.specs.Prelude.{◌≡◌, ◌≤◌, ◌<◌, ◌^◌, [], ℕ, List, IfErr, IfOk, IsErrOf, IsSome, OnOk, length};
 ghost use Rattle.std.specs.Option.{option_map};
 ghost use Rattle.edge_io.specs.Counts.{Rose};
-ghost use Rattle.desk_keeper.specs.Keepers.{Tells};
+ghost use Rattle.desk_keeper.specs.Keepers.{Tells, told_rows};
 ghost use Rattle.desk_history.specs.declared.refusals.TheConstants.{BENCHES, MOST_ROW_BYTES};
 ghost use Rattle.desk_history.specs.Courses.{AreKept, Does, history_of};
-ghost use Rattle.desk_history.specs.Histories.{edits, nth_of, outcome, publications};
-ghost use Rattle.desk_history.specs.Opened.{IsLegal};
+ghost use Rattle.desk_history.specs.Histories.{History, edits, nth_of, outcome, publications};
+ghost use Rattle.desk_history.specs.Opened.{IsDamaged, IsLegal, Opens};
 ghost use Rattle.desk_history.specs.Rows.{rows};
 ghost use Rattle.desk_history.specs.Steps.{MayAsk, step};
-ghost use Rattle.job_desk.specs.Desks.{AreNames, IsEnd, let_go};
-ghost use Rattle.job_desk.specs.Drawing.{drawn_of, value_of};
 ghost use Rattle.desk_laws.specs.Evidence.{EachPublished};
+ghost use Rattle.desk_laws.specs.Reopened.{AreNames};
+ghost use Rattle.desk_reopening.specs.Reading.{NamesDamage, SameRows};
+ghost use Rattle.job_desk.specs.Desks.{IsEnd, let_go};
+ghost use Rattle.job_desk.specs.Drawing.{drawn_of, value_of};
 
 use crate::asking::ask;
 use crate::drawing::{Drawn, drawn_of};
-use desk_laws::evidence_laws;
 use crate::letting_go::let_go;
 use crate::looks;
-use crate::opening::empty_tables;
 use command_index::{CommandIndex, index_of};
 use desk_history::{Answered, Entry, Outcome, Refusal, Request, Tables};
 use desk_keeper::{Keeper, Name};
+use desk_laws::evidence_laws;
+use desk_reopening::{OpenFault, Reopened, reopen};
 use std::alloc::{AllocError, Global};
 use std::marker::Model;
 
@@ -53,7 +55,7 @@ impl Desk {
         requires { AreNames chairs.items }
         ensures { IfOk result (λ desk. desk ≡ record { chairs = chairs.items; history = [] }) }
     {
-        let tables = empty_tables(alloc)?;
+        let tables = Tables::empty(alloc)?;
         let entries = Vec::new(alloc);
         let index = CommandIndex::new(alloc);
         Ok(Desk {
@@ -65,20 +67,20 @@ impl Desk {
         })
     }
 
-    /// A desk of these chairs whose history stands in entries with their tables, as after a reopening.
-    pub fn opened(
+    // The desk of these chairs that has done what was read again, or memory is wanting.
+    fn of_reopened(
         alloc: Global,
         chairs: Vec<Name>,
-        entries: Vec<Entry>,
-        tables: Tables,
+        reopened: Reopened,
     ) -> Result<Desk, AllocError>
         requires names { AreNames chairs.items }
-        requires legal { IsLegal chairs.items (history_of entries) }
-        requires kept { AreKept entries tables }
-        requires bytes { tables.bytes ≤ MOST_ROW_BYTES }
-        ensures { IfOk result (λ desk. desk ≡ record { chairs = chairs.items; history = history_of entries }) }
+        requires legal { IsLegal chairs.items (history_of reopened.entries) }
+        requires kept { AreKept reopened.entries reopened.tables }
+        requires bytes { reopened.tables.bytes ≤ MOST_ROW_BYTES }
+        ensures { IfOk result (λ desk. desk ≡ record { chairs = chairs.items; history = history_of reopened.entries }) }
     {
-        let index = index_of(alloc, &entries)?;
+        let index = index_of(alloc, &reopened.entries)?;
+        let Reopened { entries, tables } = reopened;
         Ok(Desk {
             alloc,
             chairs,
@@ -86,6 +88,45 @@ impl Desk {
             entries,
             tables,
         })
+    }
+
+    /// The desk of these chairs that a keeper's rows open, read from place 0 until there is none. Each row is replayed by the
+    /// rules that hold for a new command; its caller isn't looked up among the chairs, so that a chair who left doesn't spoil
+    /// the rows. Benches are empty; a job that was not published is waiting, or stale where an edit came later. A kept lottery
+    /// is trusted in nothing: it is checked again.
+    pub fn reopen<P: Keeper>(
+        alloc: Global,
+        keeper: &mut P,
+        chairs: Vec<Name>,
+    ) -> Result<Desk, OpenFault>
+        requires { AreNames chairs.items }
+        ensures chairs { IfOk result (λ desk. desk.chairs ≡ chairs.items) }
+
+        // The history is what the rows open, where the keeper tells them, and it is legal in any case.
+        ensures opened { IsSome (P.rows keeper.new) → IfOk result (λ desk. Opens (told_rows (P.rows keeper.new)) desk.history) }
+        ensures told { IfOk result (λ desk. Tells (P.rows keeper.new) (rows desk.history)) }
+        ensures legal { IfOk result (λ desk. IsLegal desk.chairs desk.history) }
+        ensures published { IfOk result (λ desk. EachPublished desk.history) }
+
+        // Damage names the first row from which no history follows, and an opened desk says that there is no such row.
+        ensures damaged { IsSome (P.rows keeper.new) → IfErr result (NamesDamage (told_rows (P.rows keeper.new))) }
+        ensures sound { IsSome (P.rows keeper.new) → OnOk result ((place : ℕ) → ¬ (IsDamaged (told_rows (P.rows keeper.new)) place)) }
+        ensures only { IsSome (P.rows keeper.new) → IfOk result (λ desk. (H : History) → Opens (told_rows (P.rows keeper.new)) H → H ≡ desk.history) }
+
+        // No row changes, and the keeper's fault has its cause.
+        ensures same { SameRows (P.rows keeper.old) (P.rows keeper.new) }
+        ensures later { P.faults keeper.old ≤ P.faults keeper.new }
+        ensures fault { IsErrOf result OpenFault.Keeper → Rose (P.faults keeper.old) (P.faults keeper.new) }
+    {
+        evidence_laws();
+        let reopened = match reopen(alloc, keeper) {
+            Ok(reopened) => reopened,
+            Err(fault) => return Err(fault),
+        };
+        match Desk::of_reopened(alloc, chairs, reopened) {
+            Ok(desk) => Ok(desk),
+            Err(_) => Err(OpenFault::Memory),
+        }
     }
 
     /// What the desk answers to a request. A command that is accepted is kept as one row more. A refusal, want of memory and

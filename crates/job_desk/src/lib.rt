@@ -12,12 +12,13 @@ mod keeping;
 mod letting_go;
 mod looks;
 mod lottery_texts;
-mod opening;
 mod publishes;
 mod rows_of_commands;
 mod submits;
+mod typed;
 
 pub use asked_looks::look;
+pub use desk_reopening::OpenFault;
 pub use desks::Desk;
 pub use drawing::{Drawn, drawn_of};
 pub use draws::draw;

@@ -15,8 +15,8 @@ ghost use Rattle.desk_history.specs.Steps.{IsRight};
 ghost use Rattle.desk_history.specs.Tables.{AreTables};
 
 use crate::drawing::evidence;
-use desk_laws::evidence_laws;
 use desk_history::{Entry, Refusal, Tables};
+use desk_laws::evidence_laws;
 use edge_io::{Io, Sink};
 use match_rules::{Answer, Rules};
 use publication::{Certificate, write_answer};

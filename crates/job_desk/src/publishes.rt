@@ -1,61 +1,22 @@
 // Publishes: the lottery of a job becomes a publication.
 
-ghost use Rattle.std.specs.Prelude.{◌≡◌, ◌≤◌, ◌<◌, ◌+◌, ◌∷◌, ℕ, List, IfOk, IsErrOf, None, OnOk, length, true, vec_capacity, vec_len};
+ghost use Rattle.std.specs.Prelude.{◌≡◌, ◌≤◌, ◌<◌, ◌+◌, ℕ, List, IfOk, IsErrOf, OnOk, true, vec_capacity, vec_len};
 ghost use Rattle.edge_io.specs.Counts.{Rose};
 ghost use Rattle.desk_keeper.specs.Keepers.{Tells};
 ghost use Rattle.desk_keeper.specs.Names.{is_chair_name};
 ghost use Rattle.desk_keeper.specs.declared.words.Command.TheVariants.{Publish};
-ghost use Rattle.desk_history.specs.declared.refusals.TheConstants.{MOST_COMMANDS, MOST_ROW_BYTES};
+ghost use Rattle.desk_history.specs.declared.refusals.TheConstants.{MOST_ROW_BYTES};
 ghost use Rattle.desk_history.specs.Courses.{AreKept, Does, history_of};
-ghost use Rattle.desk_history.specs.Histories.{History, publications};
 ghost use Rattle.desk_history.specs.Opened.{IsLegal};
-ghost use Rattle.desk_history.specs.Rows.{named, row_behind, rows};
-ghost use Rattle.desk_history.specs.Steps.{accepted, new_step};
-ghost use Rattle.desk_history.specs.Tables.{AreTables};
+ghost use Rattle.desk_history.specs.Rows.{named, rows};
+ghost use Rattle.desk_history.specs.Steps.{new_step};
 ghost use Rattle.job_desk.specs.Keeping.{AnswersCommand, HasRoom};
 
-use crate::keeping::{append, note_accepted};
+use crate::keeping::append;
 use crate::rows_of_commands::row_of_publish;
-use desk_history::{Answered, Done, Entry, Refusal, Tables, reserve};
+use desk_history::{Answered, Entry, Refusal, Tables, note_publish, reserve};
 use desk_keeper::{Command, Keeper, Name, Named};
-use std::alloc::{AllocError, Global};
-
-// Room for a publication more.
-fn reserve_publication(tables: &mut Tables) -> Result<(), AllocError>
-    ensures tables { (H : History) → AreTables H tables.old → AreTables H tables.new }
-    ensures benches { tables.new.benches ≡ tables.old.benches }
-    ensures commands { tables.new.commands ≡ tables.old.commands }
-    ensures bytes { tables.new.bytes ≡ tables.old.bytes }
-    ensures room { OnOk result (vec_len tables.new.publications < vec_capacity tables.new.publications) }
-{
-    tables.publications.reserve(1)
-}
-
-// A publish is accepted, whose row has so many bytes. Gives the number of the publication.
-fn note_publish(
-    entries: &mut Vec<Entry>,
-    tables: &mut Tables,
-    named: Named,
-    job: u64,
-    more: u64,
-) -> u64
-    requires command { named.command ≡ Publish job }
-    requires kept { AreKept entries.old tables.old }
-    requires room { vec_len entries.old + 17 ≤ vec_capacity entries.old }
-    requires publication { vec_len tables.old.publications < vec_capacity tables.old.publications }
-    requires commands { tables.old.commands < MOST_COMMANDS }
-    requires bytes { tables.old.bytes + more ≤ MOST_ROW_BYTES }
-    requires more { more ≡ length (row_behind (history_of entries.old) named None) }
-    ensures entry { history_of entries.new ≡ accepted (history_of entries.old) named None ∷ history_of entries.old }
-    ensures kept { AreKept entries.new tables.new }
-    ensures publication { result ≡ length (publications (history_of entries.old)) + 1 }
-{
-    let publication = tables.publications.len() as u64 + 1;
-    let place = entries.len() as u64;
-    tables.note_publish(job, &None, place, more);
-    note_accepted(entries, named, Done::Published { publication });
-    publication
-}
+use std::alloc::Global;
 
 // What a publish needs before it is kept: its row, and room. Or why it is refused.
 fn prepare(
@@ -85,7 +46,7 @@ fn prepare(
         Ok(()) => {}
         Err(_) => return Err(Refusal::Memory),
     }
-    match reserve_publication(tables) {
+    match tables.reserve_publication() {
         Ok(()) => Ok(row),
         Err(_) => Err(Refusal::Memory),
     }
@@ -127,6 +88,15 @@ pub fn publish<P: Keeper>(
         Ok(()) => {}
         Err(refusal) => return Err(refusal),
     }
-    let publication = note_publish(entries, tables, named, job, row.len() as u64);
+    let publication = tables.publications.len() as u64 + 1;
+    note_publish(
+        entries,
+        tables,
+        named.caller,
+        number,
+        job,
+        None,
+        row.len() as u64,
+    );
     Ok(Answered::Published { publication })
 }

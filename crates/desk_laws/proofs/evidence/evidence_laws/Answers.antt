@@ -2,7 +2,7 @@ use Rattle.desk_laws.proofs.LegalLaws.{certified_best, legal_shown, right_certif
 use Rattle.std.proofs.Common.{refl}
 use Rattle.desk_history.specs.Histories.{job_of}
 use Rattle.desk_laws.proofs.PublishedLaws.{legal_published, publishable_right}
-use Rattle.job_desk.proofs.laws.evidence_laws.Goals as goal
+use Rattle.desk_laws.proofs.evidence.evidence_laws.Goals as goal
 
 pub returns-clause-evidence : goal.returns-clause-evidence
 returns-clause-evidence c chairs H legal = legal_shown chairs H legal

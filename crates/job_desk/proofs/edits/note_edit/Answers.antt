@@ -9,7 +9,7 @@ use Rattle.desk_history.specs.Rows.{named, row_behind}
 use Rattle.desk_history.specs.Steps.{done_of}
 use Rattle.desk_history.specs.Tables.{AreTables}
 use Rattle.desk_history.proofs.TableLaws.{full_bound}
-use Rattle.job_desk.proofs.EditLaws.{edits_bound}
+use Rattle.desk_history.proofs.EditLaws.{edits_bound}
 use Rattle.job_desk.proofs.edits.note_edit.Goals as goal
 
 -- there are no more editions than commands
