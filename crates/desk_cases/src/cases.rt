@@ -1,11 +1,15 @@
 //! The case that is being read.
 
+ghost use Rattle.std.specs.Prelude.{◌<◌, IfOk};
+ghost use Rattle.desk_history.specs.declared.refusals.TheConstants.{BENCHES};
+ghost use Rattle.desk_laws.specs.Reopened.{AreNames};
+
 use crate::commands::{look_of, named_of};
 use crate::outcomes::print_outcome;
 use crate::parts::cut;
 use crate::replies::{print_piece, print_reply};
-use crate::rooms::{Room, reopened};
-use crate::rows::{check_rows, print_rows, rows_of, spoil};
+use crate::rooms::Room;
+use crate::rows::{check_rows, print_rows, spoil};
 use anyhow::bail;
 use desk_history::{Answered, BENCHES, Look, Request};
 use desk_keeper::{MemoryKeeper, Name, is_chair_name};
@@ -22,7 +26,9 @@ pub(crate) struct Cases {
     failing: Vec<u64>,
 }
 
-fn chairs_of(alloc: Global, names: &str) -> anyhow::Result<Vec<Name>> {
+fn chairs_of(alloc: Global, names: &str) -> anyhow::Result<Vec<Name>>
+    ensures { IfOk result (λ chairs. AreNames chairs.items) }
+{
     let mut chairs = Vec::new(alloc);
     for name in names.split_whitespace() {
         if !is_chair_name(name) {
@@ -33,7 +39,9 @@ fn chairs_of(alloc: Global, names: &str) -> anyhow::Result<Vec<Name>> {
     Ok(chairs)
 }
 
-fn bench_of(word: &str) -> anyhow::Result<u32> {
+fn bench_of(word: &str) -> anyhow::Result<u32>
+    ensures { IfOk result (λ bench. bench < BENCHES) }
+{
     let bench = word.parse::<u32>()?;
     if bench >= BENCHES {
         bail!("{word} is no bench");
@@ -109,10 +117,10 @@ impl Cases {
     fn spoil(&mut self, rt: &HostRuntime, rest: &str) -> anyhow::Result<()> {
         let alloc = rt.alloc();
         let chairs = chairs_of(alloc, self.chairs.as_str())?;
-        let mut rows = rows_of(alloc, &mut self.room.keeper)?;
+        let mut rows = self.room.rows(alloc)?;
         spoil(alloc, &mut rows, rest)?;
         let mut keeper = MemoryKeeper::new(rows, Vec::new(alloc));
-        print_opened(rt, reopened(alloc, &mut keeper, chairs))
+        print_opened(rt, Desk::reopen(alloc, &mut keeper, chairs))
     }
 
     fn look(&mut self, rt: &HostRuntime, rest: &str) -> anyhow::Result<()> {
@@ -124,7 +132,7 @@ impl Cases {
 
     fn check_rows(&mut self, rt: &HostRuntime) -> anyhow::Result<()> {
         let alloc = rt.alloc();
-        let rows = rows_of(alloc, &mut self.room.keeper)?;
+        let rows = self.room.rows(alloc)?;
         let (caller, _) = cut(self.chairs.as_str());
         let caller = Name::read(alloc, caller)?;
         let what = Look::Rules;
@@ -141,7 +149,7 @@ impl Cases {
 
     // What the desk and the keeper say of themselves, and commands.
     fn tell(&mut self, rt: &HostRuntime, word: &str, rest: &str) -> anyhow::Result<()> {
-        let desk = &self.room.desk;
+        let desk = self.room.desk();
         match word {
             "now" => println!(rt; "now {}", desk.now())?,
             "outcome" => print_outcome_of(rt, desk, rest.parse::<u64>()?)?,
@@ -150,7 +158,7 @@ impl Cases {
             "publications" => println!(rt; "publications {}", desk.publications())?,
             "drawn" => print_drawn(rt, desk, rest.parse::<u64>()?)?,
             "rows" => {
-                let rows = rows_of(rt.alloc(), &mut self.room.keeper)?;
+                let rows = self.room.rows(rt.alloc())?;
                 print_rows(rt, rows.as_slice())?;
             }
             "check-rows" => self.check_rows(rt)?,

@@ -1,5 +1,9 @@
 //! The rows of a keeper.
 
+ghost use Rattle.std.specs.Prelude.{◌≡◌, IfOk};
+ghost use Rattle.match_rules.specs.Rules.{AreRules};
+ghost use Rattle.desk_keeper.specs.Keepers.{Tells};
+
 use crate::parts::lines_of;
 use anyhow::{Context, bail};
 use desk_keeper::{KeepFault, Keeper, Kept, MemoryKeeper, RowFault, decode};
@@ -9,7 +13,9 @@ use std::alloc::Global;
 use std::str;
 
 // The row at a place.
-fn row_at(alloc: Global, keeper: &mut MemoryKeeper, place: u64) -> anyhow::Result<Option<Vec<u8>>> {
+fn row_at(alloc: Global, keeper: &mut MemoryKeeper, place: u64) -> anyhow::Result<Option<Vec<u8>>>
+    ensures { keeper.new.rows ≡ keeper.old.rows }
+{
     match keeper.read(alloc, place) {
         Ok(row) => Ok(row),
         Err(KeepFault::Failed) => bail!("the keeper failed"),
@@ -18,7 +24,9 @@ fn row_at(alloc: Global, keeper: &mut MemoryKeeper, place: u64) -> anyhow::Resul
 }
 
 /// A copy of all rows.
-pub(crate) fn rows_of(alloc: Global, keeper: &mut MemoryKeeper) -> anyhow::Result<Vec<Vec<u8>>> {
+pub(crate) fn rows_of(alloc: Global, keeper: &mut MemoryKeeper) -> anyhow::Result<Vec<Vec<u8>>>
+    ensures { keeper.new.rows ≡ keeper.old.rows }
+{
     let mut rows = Vec::new(alloc);
     for place in 0..=100_000u64 {
         match row_at(alloc, keeper, place)? {
