@@ -1,6 +1,7 @@
 //! What the scripts of `bench/` measure, one word each:
 //!
-//! - `network` compiles the network of the largest rules and prints its size, for `bench/network.sh`.
+//! - `network` reads rules on standard input, compiles their network and prints its size, for `bench/network.sh`; the
+//!   microseconds of the compiling go to standard error.
 //! - `import` reads a table of values on standard input and prints the number of its rows, for `bench/imports.sh`.
 //! - `solve` solves the networks on standard input and prints the cost of each, for `bench/solve.sh`; `time` does the same
 //!   and writes the microseconds of each solve alone to standard error.
@@ -9,27 +10,25 @@
 //! - `level` reads rules on standard input and prints their level in the fair mode, for `bench/job.sh`; the microseconds of the
 //!   search go to standard error.
 //!
-//! The stored run has the words `network` and `solve`. Its costs are those that `bench/plain_cost.py` finds; the last network
+//! The stored run has the word `solve`. Its costs are those that `bench/plain_cost.py` finds; the last network
 //! there is contended enough for the coarse phase.
 #![tactic(auto)]
 
 mod answer;
 mod import;
-mod level;
-mod network;
+mod rules;
 mod solve;
 
 use answer::write_again;
 use anyhow::bail;
 use import::import_values;
-use level::find_level;
-use network::compile_largest;
+use rules::{compile_network, find_level};
 use solve::solve_all;
 use std::env;
 
 fn measure(rt: &HostRuntime, word: &str) -> anyhow::Result<()> {
     match word {
-        "network" => compile_largest(rt),
+        "network" => compile_network(rt),
         "import" => import_values(rt),
         "solve" => solve_all(rt, false),
         "time" => solve_all(rt, true),

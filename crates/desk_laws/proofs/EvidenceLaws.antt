@@ -76,7 +76,7 @@ brought_within (entry ∷ H) place shown e = elim (cases_eq place (length H)) [
       omega (arith, within)
 ]
 
-brought_later : (entry : Entry) (H : History) (decided : Option ℕ) (shown : Certificate) → brought_at H decided ≡ Some shown → brought_at (entry ∷ H) decided ≡ Some shown
+pub brought_later : (entry : Entry) (H : History) (decided : Option ℕ) (shown : Certificate) → brought_at H decided ≡ Some shown → brought_at (entry ∷ H) decided ≡ Some shown
 brought_later entry H None shown e = e
 brought_later entry H (Some place) shown e =
     let within : place < length H = brought_within H place shown e in

@@ -1,5 +1,5 @@
 -- In a legal history each entry brings what is right, so each job with an answer has evidence.
-use Rattle.std.proofs.Common.{◌≡◌, ℕ, ◌+◌, Bool, true, false, cond, eqb, List, [], ◌∷◌, length, All, get_or, Option, None, Some, IfSome, refl, subst, arith, ap, sym, ◌∙◌, inl, inr, ne_eqb}
+use Rattle.std.proofs.Common.{◌≡◌, ℕ, ◌+◌, cond, eqb, List, [], ◌∷◌, length, All, get_or, Option, None, Some, IfSome, refl, subst, arith, ap, sym, ◌∙◌, inl, inr, ne_eqb}
 use Rattle.std.proofs.lemmas.List.Elements.{All-map, All-append}
 use Rattle.std.proofs.lemmas.Bool.{cases_eq}
 use Rattle.match_rules.specs.First.{first_of_two}
@@ -11,9 +11,6 @@ use Rattle.match_rules.specs.declared.answer.Answer.{Answer}
 use Rattle.match_rules.specs.declared.answer.Answer.TheVariants as answer
 use Rattle.match_rules.specs.declared.answer.Mode.{Mode}
 use Rattle.match_rules.specs.declared.answer.Winning.{Winning}
-use Rattle.match_rules.specs.declared.lottery.Piece.{Piece}
-use Rattle.match_rules.specs.declared.rules.TheConstants.{RULES_TICKETS}
-use Rattle.std.specs.Prelude.{nat_le}
 use Rattle.dual_check.proofs.PriceLaws.{best_at_bound}
 use Rattle.publication.specs.Certificates.{IsCertificate, IsSpelled}
 use Rattle.publication.specs.declared.certificate.Certificate.{Certificate}
@@ -24,25 +21,21 @@ use Rattle.desk_history.specs.declared.entries.Done.{Done}
 use Rattle.desk_history.specs.declared.entries.Entry.{Entry}
 use Rattle.desk_history.specs.declared.entries.Entry.TheVariants.{Accepted}
 use Rattle.desk_history.specs.declared.jobs.Job.{Job}
-use Rattle.desk_history.specs.declared.jobs.Publication.{Publication}
 use Rattle.desk_history.specs.declared.jobs.Outcome.{Outcome}
 use Rattle.desk_history.specs.declared.jobs.Outcome.TheVariants.{Waiting, Taken, Certified, Infeasible, Stale, OutOfMemory}
 use Rattle.desk_history.specs.declared.refusals.Refusal.{Refusal}
 use Rattle.desk_history.specs.declared.refusals.Refusal.TheVariants as refusal
-use Rattle.desk_history.specs.declared.requests.Look.{Look}
-use Rattle.desk_history.specs.declared.requests.Look.TheVariants as look
 use Rattle.desk_history.specs.declared.requests.Request.{Request}
 use Rattle.desk_history.specs.declared.requests.Request.TheVariants as request
 use Rattle.desk_history.specs.declared.requests.Work.{Work}
 use Rattle.desk_history.specs.Outcomes.{Edits, after}
-use Rattle.desk_history.specs.Histories.{Earlier, History, changed, edits, evidence, held, job_of, jobs, kept, new_job, nth_of, publications, published}
-use Rattle.desk_history.specs.Looks.{Step, answer_look, decided_look, drawn_piece, job_look, look_step, pairs_look, piece_look, publication_look, refused, rules_at, shown, ticket_look, told}
+use Rattle.desk_history.specs.Histories.{Earlier, History, changed, edits, held, job_of, jobs, kept, new_job, publications, published}
+use Rattle.desk_history.specs.Looks.{Step, look_step, refused, rules_at}
 use Rattle.desk_history.specs.Opened.{IsLegal, IsLotteryOf, IsReadWith, Makes, Replay, Replays}
 use Rattle.desk_history.specs.Refusals.{counted, is_open, is_without, own_refusal, publish_refusal, published_refusal, publishing_refusal, refusal_of, refuse_if}
-use Rattle.desk_history.specs.Rows.{evidence_of}
-use Rattle.desk_history.specs.SameCommands.{is_same_command}
 use Rattle.desk_history.specs.Steps.{IsRight, IsWorkFor, MayAsk, accepted, answered_by, command_step, done_of, finish_job, first_waiting, holds, is_chair, made, numbered_step, refused_or, release_at, step, take_at, take_first}
 use Rattle.desk_laws.specs.Evidence.{AnsweredAreShown, IfAnswered}
+use Rattle.desk_laws.proofs.EntryLaws.{Brings, either, look_brings, repeat_brings}
 use Rattle.desk_laws.proofs.EvidenceLaws.{IsFair, IsReadRightIn, IsSound, all_nth, all_one, all_with_nth, if_always, if_then, none_some, or_else, sound_next}
 
 -- Entries that requests make
@@ -52,11 +45,7 @@ first_none None b e = (refl, e)
 first_none (Some x) b e = none_some x (sym e)
 
 abbrev MakesFair : History → Step → Type 0
-MakesFair H made_step = IfSome made_step.entry (IsFair H)
-
-either : (H : History) (test : Bool) (a b : Step) → MakesFair H a → MakesFair H b → MakesFair H (cond test a b)
-either H true a b left right = left
-either H false a b left right = right
+MakesFair H made_step = Brings (IsFair H) made_step
 
 refused_fair : (H : History) (due : Option Refusal) (its : Named) → refusal_of H its None ≡ due → MakesFair H (refused_or due (made (answered_by (done_of H its.command)) (accepted H its None)))
 refused_fair H None its e = ((first_none (own_refusal H its.command None) _ e).0, tt)
@@ -64,52 +53,7 @@ refused_fair H (Some why) its e = tt
 
 numbered_fair : (H : History) (its : Named) (earlier : Option Earlier) → MakesFair H (numbered_step H its earlier)
 numbered_fair H its None = refused_fair H (refusal_of H its None) its refl
-numbered_fair H its (Some earlier) = either H (is_same_command earlier.command its.command) (told (answered_by earlier.reply)) (refused (refusal.IdReused earlier.place)) tt tt
-
-job_fair : (H : History) (number : ℕ) (job : Option Job) → MakesFair H (job_look number job)
-job_fair H number None = tt
-job_fair H number (Some job) = tt
-
-shown_fair : (H : History) (why : Refusal) (found : Option Certificate) → MakesFair H (shown why found)
-shown_fair H why None = tt
-shown_fair H why (Some certificate) = tt
-
-decided_fair : (H : History) (job : Job) (outcome : Outcome) → MakesFair H (decided_look H job outcome)
-decided_fair H job Waiting = tt
-decided_fair H job Taken = tt
-decided_fair H job (Certified level total) = shown_fair H refusal.NotCertified (evidence H job)
-decided_fair H job (Infeasible need room) = shown_fair H refusal.NotCertified (evidence H job)
-decided_fair H job (Stale later) = tt
-decided_fair H job OutOfMemory = tt
-
-answer_fair : (H : History) (job : Option Job) → MakesFair H (answer_look H job)
-answer_fair H None = tt
-answer_fair H (Some job) = decided_fair H job job.outcome
-
-publication_fair : (H : History) (publication : Option Publication) → MakesFair H (publication_look H publication)
-publication_fair H None = tt
-publication_fair H (Some publication) = shown_fair H refusal.UnknownPublication (evidence_of H (job_of H publication.job))
-
-piece_fair : (H : History) (value : RulesValue) (piece : Option Piece) → MakesFair H (piece_look value piece)
-piece_fair H value None = tt
-piece_fair H value (Some piece) = tt
-
-pairs_fair : (H : History) (found : Option Certificate) (ticket : ℕ) → MakesFair H (pairs_look found ticket)
-pairs_fair H None ticket = tt
-pairs_fair H (Some certificate) ticket = piece_fair H certificate.rules (drawn_piece certificate.answer ticket)
-
-ticket_fair : (H : History) (publication : Option Publication) (ticket : ℕ) → MakesFair H (ticket_look H publication ticket)
-ticket_fair H None ticket = tt
-ticket_fair H (Some publication) ticket =
-    either H (nat_le RULES_TICKETS ticket) (refused refusal.BadTicket) (pairs_look (evidence_of H (job_of H publication.job)) ticket) tt (pairs_fair H (evidence_of H (job_of H publication.job)) ticket)
-
-look_fair : (H : History) (what : Look) → MakesFair H (look_step H what)
-look_fair H look.Edition = tt
-look_fair H look.Rules = tt
-look_fair H (look.Job job) = job_fair H job (job_of H job)
-look_fair H (look.Answer job) = answer_fair H (job_of H job)
-look_fair H (look.Publication number) = publication_fair H (nth_of (publications H) number)
-look_fair H (look.Ticket publication ticket) = ticket_fair H (nth_of (publications H) publication) ticket
+numbered_fair H its (Some earlier) = repeat_brings (IsFair H) earlier its.command
 
 first_fair : (H : History) (bench : ℕ) (found : Option (ℕ × Job)) → MakesFair H (take_first H bench found)
 first_fair H bench None = tt
@@ -132,15 +76,15 @@ finish_fair : (H : History) (bench number : ℕ) (done : Work) (job : Option ℕ
 finish_fair H bench number done None e fair = tt
 finish_fair H bench number done (Some job) e fair = elim (cases_eq job number) [
   | inl same ↦
-      either H (eqb job number) (finish_job bench number done (job_of H number)) (refused refusal.BenchEmpty)
+      either (IsFair H) (eqb job number) (finish_job bench number done (job_of H number)) (refused refusal.BenchEmpty)
       (ended_fair H bench number done (job_of H number) (subst (λ (o : Option ℕ). IfSome o (λ n. IsWorkFor H n done)) (sym e) (subst (λ n. IsWorkFor H n done) (sym same) fair)))
       tt
   | inr other ↦ rw (ne_eqb job number other) tt
 ]
 
 asked_fair : (chairs : List (List ℕ)) (H : History) (asked : Request) → MayAsk H asked → MakesFair H (step chairs H asked)
-asked_fair chairs H (request.Do its) may = either H (is_chair chairs its.caller) (command_step H its) (refused refusal.UnknownChair) (numbered_fair H its (kept H its.caller its.number)) tt
-asked_fair chairs H (request.Look caller what) may = either H (is_chair chairs caller) (look_step H what) (refused refusal.UnknownChair) (look_fair H what) tt
+asked_fair chairs H (request.Do its) may = either (IsFair H) (is_chair chairs its.caller) (command_step H its) (refused refusal.UnknownChair) (numbered_fair H its (kept H its.caller its.number)) tt
+asked_fair chairs H (request.Look caller what) may = either (IsFair H) (is_chair chairs caller) (look_step H what) (refused refusal.UnknownChair) (look_brings (IsFair H) H what) tt
 asked_fair chairs H (request.Take bench) may = take_fair H bench (held H bench)
 asked_fair chairs H (request.Finish bench job done) may = finish_fair H bench job done (held H bench) refl may.1
 asked_fair chairs H (request.Release bench) may = release_fair H bench (held H bench)
@@ -181,7 +125,7 @@ unpublished : (number : Option ℕ) → published_refusal number ≡ None → nu
 unpublished None e = refl
 unpublished (Some number) e = none_some (refusal.AlreadyPublished number) (sym e)
 
-unpublished_job : (now : ℕ) (job : Job) (outcome : Outcome) → publishing_refusal now job outcome ≡ None → job.publication ≡ None
+pub unpublished_job : (now : ℕ) (job : Job) (outcome : Outcome) → publishing_refusal now job outcome ≡ None → job.publication ≡ None
 unpublished_job now job outcome e =
     let later = (first_none (refuse_if (is_open outcome) refusal.NotDone) _ e).1 in
     let without = (first_none _ _ later).1 in

@@ -1,3 +1,11 @@
 pub mod EvidenceLaws
+pub mod EntryLaws
 pub mod LegalLaws
+mod Keeping
 pub mod PublishedLaws
+mod Pairs
+mod SameJobs
+mod MadeLaws
+mod Spelled
+mod SameEvidence
+mod ReopenedLaws

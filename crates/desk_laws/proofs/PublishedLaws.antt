@@ -1,5 +1,5 @@
 -- In a legal history each publication is of a job with a certified lottery.
-use Rattle.std.proofs.Common.{◌≡◌, ◌∙◌, ℕ, ◌+◌, ◌-◌, ◌≤◌, ◌<◌, Bool, true, false, cond, eqb, List, [], ◌∷◌, ◌++◌, length, map, set, All, get_or, Option, None, Some, refl, subst, arith, ap, sym, zero, suc, ltb, inl, inr}
+use Rattle.std.proofs.Common.{◌≡◌, ◌∙◌, ℕ, ◌+◌, ◌-◌, ◌≤◌, ◌<◌, Bool, true, false, cond, eqb, List, [], ◌∷◌, length, All, get_or, Option, None, Some, refl, subst, arith, ap, sym, ltb, inl, inr}
 use Rattle.std.proofs.Common.{rules}
 use Rattle.std.specs.Prelude.{⊤}
 use Rattle.std.specs.List.{slice_get}
@@ -32,65 +32,12 @@ use Rattle.match_rules.specs.declared.answer.Mode.{Mode}
 use Rattle.std.specs.Prelude.{nat_lt}
 use Rattle.desk_laws.specs.Evidence.{EachPublished, HasEvidence, IfAnswered, IsBacked}
 use Rattle.desk_laws.proofs.EvidenceLaws.{IsFair, IsSound, all_nth, all_one, all_then, all_with_nth, none_some, or_else}
+use Rattle.desk_laws.proofs.Keeping.{IfThere, Keeps, get_append, get_map, nth_keep, nth_set, with_nth_keep}
 use Rattle.desk_laws.proofs.LegalLaws.{IsGood, first_none, legal_sound, made_fair, none_good, replays_fair, replays_good}
-
--- Lists
-
-abbrev IfThere : {A : Type 0} → Option A → (A → Type 0) → Type 0
-IfThere None P = ⊥
-IfThere (Some x) P = P x
-
--- what holds of an item of the one list holds of that of the other at its place
-abbrev Keeps : {A : Type 0} → (A → Type 0) → List A → List A → Type 0
-Keeps P xs ys = (i : ℕ) → IfThere (slice_get xs i) P → IfThere (slice_get ys i) P
-
-get_map : {A : Type 0} (P : A → Type 0) (f : A → A) → ((x : A) → P x → P (f x)) → (xs : List A) (i : ℕ) → IfThere (slice_get xs i) P → IfThere (slice_get (map f xs) i) P
-get_map P f step [] i there = absurd there
-get_map P f step (x ∷ xs) zero there = step x there
-get_map P f step (x ∷ xs) (suc i) there = get_map P f step xs i there
-
-get_append : {A : Type 0} (P : A → Type 0) (xs ys : List A) (i : ℕ) → IfThere (slice_get xs i) P → IfThere (slice_get (xs ++ ys) i) P
-get_append P [] ys i there = absurd there
-get_append P (x ∷ xs) ys zero there = there
-get_append P (x ∷ xs) ys (suc i) there = get_append P xs ys i there
-
-get_set : {A : Type 0} (P : A → Type 0) (xs : List A) (place : ℕ) (y : A) (i : ℕ) → (IfThere (slice_get xs place) P → P y) → IfThere (slice_get xs i) P → IfThere (slice_get (set xs place y) i) P
-get_set P [] place y i step there = absurd there
-get_set P (x ∷ xs) zero y zero step there = step there
-get_set P (x ∷ xs) zero y (suc i) step there = there
-get_set P (x ∷ xs) (suc place) y zero step there = there
-get_set P (x ∷ xs) (suc place) y (suc i) step there = get_set P xs place y i step there
-
-got_set : {A : Type 0} (P : A → Type 0) (xs : List A) (place : ℕ) (x y : A) → slice_get xs place ≡ Some x → P y → IfThere (slice_get (set xs place y) place) P
-got_set P [] place x y found p = none_some x found
-got_set P (z ∷ xs) zero x y found p = p
-got_set P (z ∷ xs) (suc place) x y found p = got_set P xs place x y found p
-
-nth_test : {A : Type 0} (P : A → Type 0) (xs ys : List A) (test : Bool) (i : ℕ) → (IfThere (slice_get xs i) P → IfThere (slice_get ys i) P) → IfThere (cond test None (slice_get xs i)) P → IfThere (cond test None (slice_get ys i)) P
-nth_test P xs ys true i step there = there
-nth_test P xs ys false i step there = step there
-
-nth_keep : {A : Type 0} (P : A → Type 0) (xs ys : List A) (number : ℕ) → Keeps P xs ys → IfThere (nth_of xs number) P → IfThere (nth_of ys number) P
-nth_keep P xs ys number keeps there = nth_test P xs ys (eqb number 0) (number - 1) (keeps (number - 1)) there
-
-nth_set : {A : Type 0} (P : A → Type 0) (xs : List A) (test : Bool) (i : ℕ) (x y : A) → cond test None (slice_get xs i) ≡ Some x → P y → IfThere (cond test None (slice_get (set xs i y) i)) P
-nth_set P xs true i x y found p = none_some x found
-nth_set P xs false i x y found p = got_set P xs i x y found p
-
-found_get : {A : Type 0} (xs : List A) (test : Bool) (i : ℕ) (x : A) → cond test None (slice_get xs i) ≡ Some x → slice_get xs i ≡ Some x
-found_get xs true i x found = none_some x found
-found_get xs false i x found = found
-
-with_at_keep : {A : Type 0} (P : A → Type 0) (xs : List A) (place : ℕ) (change : A → A) (found : Option A) → ((x : A) → found ≡ Some x → slice_get xs place ≡ Some x) → ((x : A) → P x → P (change x)) → Keeps P xs (with_at xs place change found)
-with_at_keep P xs place change None is step = λ i there. there
-with_at_keep P xs place change (Some x) is step = λ i there. get_set P xs place (change x) i (λ p. step x (subst (λ o. IfThere o P) (is x refl) p)) there
-
-with_nth_keep : {A : Type 0} (P : A → Type 0) (xs : List A) (number : ℕ) (change : A → A) → ((x : A) → P x → P (change x)) → Keeps P xs (with_nth xs number change)
-with_nth_keep P xs number change step = with_at_keep P xs (number - 1) change (nth_of xs number) (λ x e. found_get xs (eqb number 0) (number - 1) x e) step
 
 -- Jobs with a lottery keep it
 
-abbrev IsWon : Outcome → Type 0
+abbrev pub IsWon : Outcome → Type 0
 IsWon Waiting = ⊥
 IsWon Taken = ⊥
 IsWon (Certified level total) = ⊤
@@ -98,10 +45,11 @@ IsWon (Infeasible need room) = ⊥
 IsWon (Stale later) = ⊥
 IsWon OutOfMemory = ⊥
 
-abbrev JobIsWon : Job → Type 0
-JobIsWon job = IsWon job.outcome
+-- a job with a lottery and a publication
+abbrev pub JobIsWon : Job → Type 0
+JobIsWon job = IsWon job.outcome × (job.publication ≡ None → ⊥)
 
-won_stays : (event : Event) (outcome : Outcome) → IsWon outcome → IsWon (after event outcome)
+pub won_stays : (event : Event) (outcome : Outcome) → IsWon outcome → IsWon (after event outcome)
 won_stays event Waiting won = absurd won
 won_stays event Taken won = absurd won
 won_stays Takes (Certified level total) won = tt
@@ -114,21 +62,21 @@ won_stays event (Stale later) won = absurd won
 won_stays event OutOfMemory won = absurd won
 
 won_published : (read : Option Certificate) (place number : ℕ) (job : Job) → JobIsWon job → JobIsWon (published read place number job)
-won_published None place number job won = won
-won_published (Some read) place number job won = won_stays (Reads read.answer) job.outcome won
+won_published None place number job won = (won.0, λ e. none_some number (sym e))
+won_published (Some read) place number job won = (won_stays (Reads read.answer) job.outcome won.0, λ e. none_some number (sym e))
 
 won_held : (xs : List Job) (job : Option ℕ) (change : Job → Job) → ((x : Job) → JobIsWon x → JobIsWon (change x)) → Keeps JobIsWon xs (with_held xs job change)
 won_held xs None change step = λ i there. there
 won_held xs (Some number) change step = with_nth_keep JobIsWon xs number change step
 
 won_jobs : (entry : Entry) (H : History) → Keeps JobIsWon (jobs H) (jobs (entry ∷ H))
-won_jobs (Accepted caller number (Edit base edit) reply read) H = λ i there. get_map JobIsWon (changed (Edits (edits H + 1))) (λ x won. won_stays (Edits (edits H + 1)) x.outcome won) (jobs H) i there
+won_jobs (Accepted caller number (Edit base edit) reply read) H = λ i there. get_map JobIsWon (changed (Edits (edits H + 1))) (λ x won. (won_stays (Edits (edits H + 1)) x.outcome won.0, won.1)) (jobs H) i there
 won_jobs (Accepted caller number (Submit base mode) reply read) H = λ i there. get_append JobIsWon (jobs H) (new_job (edits H) mode ∷ []) i there
 won_jobs (Accepted caller number (Publish job) reply read) H = with_nth_keep JobIsWon (jobs H) job (published read (length H) (length (publications H) + 1)) (won_published read (length H) (length (publications H) + 1))
 won_jobs (Accepted caller number (Draw publication text) reply read) H = λ i there. there
-won_jobs (Took bench job) H = with_nth_keep JobIsWon (jobs H) job (changed Takes) (λ x won. won_stays Takes x.outcome won)
-won_jobs (Ended bench done) H = won_held (jobs H) (held H bench) (ended done (length H)) (λ x won. won_stays (Ends done) x.outcome won)
-won_jobs (Released bench) H = won_held (jobs H) (held H bench) (changed Releases) (λ x won. won_stays Releases x.outcome won)
+won_jobs (Took bench job) H = with_nth_keep JobIsWon (jobs H) job (changed Takes) (λ x won. (won_stays Takes x.outcome won.0, won.1))
+won_jobs (Ended bench done) H = won_held (jobs H) (held H bench) (ended done (length H)) (λ x won. (won_stays (Ends done) x.outcome won.0, won.1))
+won_jobs (Released bench) H = won_held (jobs H) (held H bench) (changed Releases) (λ x won. (won_stays Releases x.outcome won.0, won.1))
 
 -- A stale job is of an edition before the present one
 
@@ -140,7 +88,7 @@ IfStale (Infeasible need room) P = ⊤
 IfStale (Stale later) P = P
 IfStale OutOfMemory P = ⊤
 
-abbrev IsTimely : ℕ → Job → Type 0
+abbrev pub IsTimely : ℕ → Job → Type 0
 IsTimely now job = (job.edition ≤ now) × IfStale job.outcome (job.edition < now)
 
 stale_always : (outcome : Outcome) (P : Type 0) → P → IfStale outcome P
@@ -191,7 +139,7 @@ stale_read reply (Infeasible need room) P p = tt
 stale_read reply (Stale later) P p = p
 stale_read reply OutOfMemory P p = tt
 
-stale_counted : (read : Option Certificate) (outcome : Outcome) (P : Type 0) → IfStale outcome P → IfStale (counted read outcome) P
+pub stale_counted : (read : Option Certificate) (outcome : Outcome) (P : Type 0) → IfStale outcome P → IfStale (counted read outcome) P
 stale_counted None outcome P p = p
 stale_counted (Some read) outcome P p = stale_read read.answer outcome P p
 
@@ -206,7 +154,7 @@ timely_held : (now : ℕ) (xs : List Job) (job : Option ℕ) (change : Job → J
 timely_held now xs None change step all = all
 timely_held now xs (Some number) change step all = all_with_nth (IsTimely now) xs number change (λ x found is. step x is) all
 
-timely : (H : History) → All (IsTimely (edits H)) (jobs H)
+pub timely : (H : History) → All (IsTimely (edits H)) (jobs H)
 timely [] = λ k d lt. absurd (omega arith)
 timely (Accepted caller number (Edit base edit) reply read ∷ H) = All-map (IsTimely (edits H + 1)) (changed (Edits (edits H + 1))) (jobs H) (λ k d lt. timely_edit (edits H) (get_or (jobs H) k d) (timely H k d lt))
 timely (Accepted caller number (Submit base mode) reply read ∷ H) = All-append (IsTimely (edits H)) (jobs H) (new_job (edits H) mode ∷ []) (timely H) (all_one (IsTimely (edits H)) (new_job (edits H) mode) (omega arith, tt))
@@ -226,7 +174,7 @@ refused_never false why e none = elim_false e
     elim_false : {P : Type 0} → (let no : Bool = false in no ≡ true) → P
     elim_false e = absurd (false≢true e)
 
-won_accepted : (now : ℕ) (job : Job) (outcome : Outcome) → publishing_refusal now job outcome ≡ None → IfStale outcome (job.edition < now) → IsWon outcome
+pub won_accepted : (now : ℕ) (job : Job) (outcome : Outcome) → publishing_refusal now job outcome ≡ None → IfStale outcome (job.edition < now) → IsWon outcome
 won_accepted now job outcome e stale =
     let first = first_none (refuse_if (is_open outcome) refusal.NotDone) _ e in
     let second = first_none (refuse_if (nat_lt job.edition now) (refusal.Stale now)) _ first.1 in
@@ -242,8 +190,8 @@ won_accepted now job outcome e stale =
     by_outcome OutOfMemory done old without stale = none_some refusal.NotCertified (sym without)
 
 won_counted : (read : Option Certificate) (place number : ℕ) (job : Job) → IsWon (counted read job.outcome) → JobIsWon (published read place number job)
-won_counted None place number job won = won
-won_counted (Some read) place number job won = won
+won_counted None place number job won = (won, λ e. none_some number (sym e))
+won_counted (Some read) place number job won = (won, λ e. none_some number (sym e))
 
 won_job : (H : History) (number place new : ℕ) (read : Option Certificate) (job : Option Job) → job_of H number ≡ job → publish_refusal (edits H) read job ≡ None → IfThere (nth_of (with_nth (jobs H) number (published read place new)) number) JobIsWon
 won_job H number place new read None found e = none_some refusal.UnknownJob (sym e)
@@ -255,7 +203,7 @@ won_job H number place new read (Some job) found e =
 
 -- Publications
 
-abbrev IsOfWon : History → Publication → Type 0
+abbrev pub IsOfWon : History → Publication → Type 0
 IsOfWon H publication = IfThere (job_of H publication.job) JobIsWon
 
 won_behind : (entry : Entry) (H : History) → IsFair H entry → All (IsOfWon (entry ∷ H)) (publications H) → All (IsOfWon (entry ∷ H)) (publications (entry ∷ H))
@@ -284,14 +232,14 @@ won_replay H (row ∷ rows) end (next, first, rest) good all =
 none_won : All (IsOfWon []) (publications [])
 none_won = λ k d lt. absurd (omega arith)
 
-legal_won : (chairs : List (List ℕ)) (H : History) → IsLegal chairs H → All (IsOfWon H) (publications H)
+pub legal_won : (chairs : List (List ℕ)) (H : History) → IsLegal chairs H → All (IsOfWon H) (publications H)
 legal_won chairs [] legal = none_won
 legal_won chairs (entry ∷ H) (inl opened) = won_replay [] opened.0 (entry ∷ H) opened.1 none_good none_won
 legal_won chairs (entry ∷ H) (inr legal) = won_next entry H (made_fair chairs H entry legal.1) (legal_won chairs H legal.0)
 
 -- The evidence of a publication
 
-won_evidence : (outcome : Outcome) (P : Type 0) → IsWon outcome → IfAnswered outcome P → P
+pub won_evidence : (outcome : Outcome) (P : Type 0) → IsWon outcome → IfAnswered outcome P → P
 won_evidence Waiting P won has = absurd won
 won_evidence Taken P won has = absurd won
 won_evidence (Certified level total) P won has = has
@@ -304,11 +252,14 @@ backed_by : (H : History) (publication : Publication) (job : Job) (reply : Answe
 backed_by H publication job (answer.Lottery winning) there shown right won = record { job = job; winning = winning; there = there; shown = shown; certified = right }
 backed_by H publication job (answer.Infeasible blocked) there shown right won = absurd won
 
-backed : (H : History) (publication : Publication) (job : Option Job) → job_of H publication.job ≡ job → IfThere job JobIsWon → All (IsSound H) (jobs H) → IsBacked H publication
-backed H publication None there won all = absurd won
-backed H publication (Some job) there won all =
+pub backed_job : (H : History) (publication : Publication) (job : Job) → job_of H publication.job ≡ Some job → IsWon job.outcome → All (IsSound H) (jobs H) → IsBacked H publication
+backed_job H publication job there won all =
     let has : HasEvidence H job = won_evidence job.outcome (HasEvidence H job) won (all_nth (IsSound H) (jobs H) publication.job job all there).1 in
     backed_by H publication job has.answer there has.shown has.right (subst IsWon (sym has.told) won)
+
+backed : (H : History) (publication : Publication) (job : Option Job) → job_of H publication.job ≡ job → IfThere job JobIsWon → All (IsSound H) (jobs H) → IsBacked H publication
+backed H publication None there won all = absurd won
+backed H publication (Some job) there won all = backed_job H publication job there won.0 all
 
 pub legal_published : (chairs : List (List ℕ)) (H : History) → IsLegal chairs H → EachPublished H
 legal_published chairs H legal =

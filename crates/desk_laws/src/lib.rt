@@ -2,5 +2,7 @@
 #![tactic(auto)]
 
 mod evidence;
+mod reopened;
 
 pub use evidence::evidence_laws;
+pub use reopened::reopened_laws;

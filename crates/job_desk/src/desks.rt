@@ -68,11 +68,7 @@ impl Desk {
     }
 
     // The desk of these chairs that has done what was read again, or memory is wanting.
-    fn of_reopened(
-        alloc: Global,
-        chairs: Vec<Name>,
-        reopened: Reopened,
-    ) -> Result<Desk, AllocError>
+    fn of_reopened(alloc: Global, chairs: Vec<Name>, reopened: Reopened) -> Result<Desk, AllocError>
         requires names { AreNames chairs.items }
         requires legal { IsLegal chairs.items (history_of reopened.entries) }
         requires kept { AreKept reopened.entries reopened.tables }

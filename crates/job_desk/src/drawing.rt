@@ -15,6 +15,7 @@ use match_rules::{Answer, Lottery, Piece, Rules, piece_of};
 use publication::Certificate;
 
 /// What a publication has drawn.
+#[derive(Drop)]
 pub struct Drawn<'a> {
     /// The rules of its job.
     pub rules: &'a Rules,

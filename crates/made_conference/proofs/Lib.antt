@@ -1,0 +1,4 @@
+mod NumberLaws
+mod PairLaws
+mod TableLaws
+mod OrderLaws
