@@ -1,5 +1,5 @@
 -- Places of chosen pairs: taken in, taken out, and those of all counts.
-use Rattle.std.proofs.Common.{◌≡◌, ◌≢◌, ℕ, zero, suc, ◌+◌, ◌<◌, ◌≤◌, Bool, true, false, List, [], ◌∷◌, ◌++◌, length, get_or, cond, eqb, refl, sym, ap, ◌∙◌, subst, arith, inl, inr}
+use Rattle.std.proofs.Common.{◌≡◌, ◌≢◌, ℕ, zero, suc, ◌+◌, ◌-◌, ◌<◌, ◌≤◌, Bool, true, false, List, [], ◌∷◌, ◌++◌, length, get_or, cond, eqb, refl, sym, ap, ◌∙◌, subst, arith, inl, inr}
 use Rattle.std.specs.Prelude.{◌⊎◌, ◌==◌, slice_index, Contains, Result, MatchResult}
 use Rattle.std.specs.List.{insert, remove}
 use Rattle.std.specs.List.Sorted.{IsBinarySearchResult}
@@ -39,6 +39,16 @@ in-already xs i y up lt is = record {
   only = λ e has other. has;
 }
 
+insert-past : (xs : List ℕ) (i y k : ℕ) → i ≤ length xs → i < k → get_or (insert xs i y) k 0 ≡ get_or xs (k - 1) 0
+insert-past xs i y k most past =
+    let e : (k - 1) + 1 ≡ k = omega arith in
+    subst (λ n. get_or (insert xs i y) n 0 ≡ get_or xs (k - 1) 0) e (get_or-insert_above xs i y 0 (k - 1) (omega arith) most)
+
+remove-past : (xs : List ℕ) (i k : ℕ) → i < length xs → i < k → get_or (remove xs i) (k - 1) 0 ≡ get_or xs k 0
+remove-past xs i k lt past =
+    let e : (k - 1) + 1 ≡ k = omega arith in
+    subst (λ n. get_or (remove xs i) (k - 1) 0 ≡ get_or xs n 0) e (get_or-remove_above xs i 0 (k - 1) (omega arith) lt)
+
 insert-ascends : (xs : List ℕ) (i y : ℕ) → DoAscend xs → i ≤ length xs → ((k : ℕ) → k < i → get_or xs k 0 < y) → ((k : ℕ) → i ≤ k → k < length xs → y < get_or xs k 0) → DoAscend (insert xs i y)
 insert-ascends xs i y up most low high k lt = elim (cases_lt (k + 1) i) [
   | inl before ↦
@@ -69,13 +79,12 @@ insert-ascends xs i y up most low high k lt = elim (cases_lt (k + 1) i) [
         ]
       where
         after : (k : ℕ) → k + 1 < length (insert xs i y) → i < k → get_or (insert xs i y) k 0 < get_or (insert xs i y) (k + 1) 0
-        after zero lt past = absurd (omega arith)
-        after (suc m) lt past =
+        after k lt past =
             let long = length-insert xs i y most in
-            let first = get_or-insert_above xs i y 0 m (omega arith) most in
-            let second = get_or-insert_above xs i y 0 (m + 1) (omega arith) most in
-            let step = up m (omega arith) in
-            omega arith
+            let first = insert-past xs i y k most past in
+            let second = get_or-insert_above xs i y 0 k (omega arith) most in
+            let step = rises xs (k - 1) k up (omega arith) (omega arith) in
+            omega (arith, first, second, step)
 
 insert-keeps : (xs : List ℕ) (i y e : ℕ) → i ≤ length xs → Contains xs e → Contains (insert xs i y) e
 insert-keeps xs i y e most has =
@@ -94,14 +103,11 @@ insert-only xs i y e most has other =
   where
     by : (k : ℕ) → k < length (insert xs i y) → slice_index (insert xs i y) k ≡ e → (k < i) ⊎ (i ≤ k) → Contains xs e
     by k within is (inl before) = at-contains xs e k (omega arith) (sym (get_or-insert_below xs i y 0 k before most) ∙ is)
-    by zero within is (inr late) =
-        let here : i ≡ 0 = omega arith in
-        absurd (other (sym is ∙ ap (λ n. get_or (insert xs i y) n 0) (sym here) ∙ get_or-insert_at xs i y 0 most))
-    by (suc m) within is (inr late) = elim (cases_eq (suc m) i) [
+    by k within is (inr late) = elim (cases_eq k i) [
       | inl here ↦ absurd (other (sym is ∙ ap (λ n. get_or (insert xs i y) n 0) here ∙ get_or-insert_at xs i y 0 most))
       | inr past ↦
           let long = length-insert xs i y most in
-          at-contains xs e m (omega arith) (sym (get_or-insert_above xs i y 0 m (omega arith) most) ∙ is)
+          at-contains xs e (k - 1) (omega arith) (sym (insert-past xs i y k most (omega arith)) ∙ is)
     ]
 
 pub in-inserted : (xs : List ℕ) (i y : ℕ) → DoAscend xs → i ≤ length xs → ((k : ℕ) → k < i → get_or xs k 0 < y) → ((k : ℕ) → i ≤ k → k < length xs → y < get_or xs k 0) → IsTakenIn xs y (insert xs i y)
@@ -175,14 +181,11 @@ out-removed xs i y up lt is = record {
     stays e k within at other (inl before) =
         let long = length-remove xs i lt in
         at-contains (remove xs i) e k (omega arith) (get_or-remove_below xs i 0 k before lt ∙ at)
-    stays e zero within at other (inr late) =
-        let here : 0 ≡ i = omega arith in
-        absurd (other (sym at ∙ ap (λ n. get_or xs n 0) here ∙ is))
-    stays e (suc m) within at other (inr late) = elim (cases_eq (suc m) i) [
+    stays e k within at other (inr late) = elim (cases_eq k i) [
       | inl here ↦ absurd (other (sym at ∙ ap (λ n. get_or xs n 0) here ∙ is))
       | inr past ↦
           let long = length-remove xs i lt in
-          at-contains (remove xs i) e m (omega arith) (get_or-remove_above xs i 0 m (omega arith) lt ∙ at)
+          at-contains (remove xs i) e (k - 1) (omega arith) (remove-past xs i k lt (omega arith) ∙ at)
     ]
 
 -- ---- the places of counts

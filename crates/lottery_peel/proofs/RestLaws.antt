@@ -1,13 +1,13 @@
 -- What is left of the shares, by what stands: it is the rest that a standing assignment has, and a piece takes its tickets off.
-use Rattle.std.proofs.Common.{◌≡◌, ℕ, ◌+◌, ◌-◌, ◌*◌, ◌<◌, ◌≤◌, List, length, sym, ◌∙◌, subst, arith}
+use Rattle.std.proofs.Common.{◌≡◌, ℕ, ◌+◌, ◌-◌, ◌*◌, ◌<◌, ◌≤◌, List, length, sym, ◌∙◌, subst, arith, inl, inr}
 use Rattle.std.specs.Prelude.{slice_index}
 use Rattle.std.proofs.lemmas.Bool.{eq-eqb, ne_eqb}
 use Rattle.std.proofs.lemmas.Grind.{same_number_lists}
 use Rattle.std.proofs.lemmas.List.{length-take-le}
 use Rattle.match_rules.specs.Rules.{RulesValue}
 use Rattle.bounded_network.specs.declared.network.Arc.{Arc}
-use Rattle.bounded_network.specs.Compile.{amounts_in, flow_of}
-use Rattle.bounded_network.specs.Network.{arc_at}
+use Rattle.bounded_network.specs.Compile.{amounts_in, flow_of, place_count}
+use Rattle.bounded_network.specs.Network.{NetworkValue, arc_at}
 use Rattle.bounded_network.proofs.Compiled.{amount-in, flow-length, flow-of_pair}
 use Rattle.bounded_network.proofs.Parts.{length-listed, listed-at}
 use Rattle.lottery_peel.specs.declared.standing.Standing.{Standing}
@@ -77,6 +77,10 @@ chosen-length rules rest left counts next =
     let long = next.rounds.long in
     length-take-le (length rules.pairs) counts (omega arith)
 
+-- and so has any flow of a network of the rules
+pub size-of_chosen : (rules : RulesValue) (net : NetworkValue) (counts : List ℕ) → length net.arcs ≡ place_count rules → length counts ≡ length net.arcs → length (amounts_in rules counts) ≡ length rules.pairs
+size-of_chosen rules net counts size long = length-take-le (length rules.pairs) counts (omega arith)
+
 -- what a piece takes is taken off, though nothing is written
 pub rest-less : (rules : RulesValue) (left : ℕ) (s : Standing) (weight next : ℕ) → IsNextStanding rules left (rest_of rules left s) s → 1 ≤ left
     → IsWeight left (flow_of rules (rest_of rules left s)) s.counts.items (length (flow_of rules (rest_of rules left s))) weight → next + weight ≡ left
@@ -92,7 +96,7 @@ rest-less rules left s weight next was some weighs tickets =
           let pair : e < length rules.pairs = omega arith in
           let count : ℕ = slice_index s.counts.items e in
           let here = amount-in rules s.counts.items e pair in
-          let enough : weight * count ≤ slice_index rest e = rw here at next-enough rules rest left s.counts.items weight long is weighs e lt in
+          let enough : weight * count ≤ slice_index rest e = rw here at (next-enough rules rest left s.counts.items weight long is weighs e lt) in
           let line = line-of_pair rules left rest s e was.stands pair in
           let less = line-less rules.tickets next weight (arc_at s.net e) count (slice_index s.dues.items e) (slice_index rest e)
           (subst (λ n. IsLine rules.tickets n (arc_at s.net e) count (slice_index s.dues.items e) (slice_index rest e)) (sym tickets) line) enough in

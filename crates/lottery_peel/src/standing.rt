@@ -93,7 +93,8 @@ pub fn first_standing(alloc: Global, rules: &Rules, shares: &Shares) -> Result<S
     let dues = first_dues(alloc, rules, shares, counts.as_slice())?;
     let _arcs = net.arcs();
     let waiting = all_waiting(alloc, rules.tickets(), dues.as_slice())?;
-    let chosen = chosen_places(alloc, &counts[..rules.pairs().len()])?.into_vec();
+    let places = chosen_places(alloc, &counts[..rules.pairs().len()])?;
+    let chosen = places.into_vec();
     let links = links_of(alloc, &net)?;
     links_serve(&net, &links);
     let ahead = blank(alloc, &net)?;

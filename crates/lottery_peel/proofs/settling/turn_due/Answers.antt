@@ -2,7 +2,7 @@ use Rattle.std.proofs.Common.{◌≡◌, ◌≢◌, ℕ, ◌+◌, ◌-◌, ◌<�
 use Rattle.std.specs.Prelude.{slice_index}
 use Rattle.std.specs.Vec.{with_items}
 use Rattle.std.proofs.lemmas.List.{get_or_read, with_items_is}
-use Rattle.bounded_network.specs.Compile.{flow_of}
+use Rattle.bounded_network.specs.Compile.{amounts_in, flow_of}
 use Rattle.bounded_network.specs.Network.{IsCirculation, AreViolated, arc_at}
 use Rattle.residual_arcs.specs.declared.step.Step.{Step}
 use Rattle.residual_arcs.specs.Step.{carried}
@@ -10,6 +10,9 @@ use Rattle.unit_turns.specs.Fixed.{with_fixed}
 use Rattle.unit_turns.specs.Steps.{AreFree, AreTaken, step_at}
 use Rattle.lottery_peel.specs.declared.standing.Standing.{Standing}
 use Rattle.lottery_peel.specs.Standing.{rest_of, AreTurned, IsLine, IsMultiple, IsTight, Waits}
+use Rattle.lottery_peel.specs.Choices.{AreChosenBut}
+use Rattle.lottery_peel.proofs.ChoiceLaws.{chosen-before}
+use Rattle.lottery_peel.proofs.RestLaws.{size-of_chosen}
 use Rattle.lottery_peel.proofs.DueLaws.{waits-others}
 use Rattle.lottery_peel.proofs.StandingLaws.{dues-between, due-possible, first-turned, lines-turned, multiple-turned, other-way, tight-turned}
 use Rattle.lottery_peel.proofs.settling.turn_due.Goals as goal
@@ -93,10 +96,25 @@ returns-clause-stands c =
       lines = λ a lt.
           subst (λ xs. IsLine all left (arc_at s.net a) (slice_index xs a) (slice_index (with_items s.dues c.set_dues.new.dues).items a) (slice_index amounts a)) (sym counts)
           (subst (λ xs. IsLine all left (arc_at s.net a) (slice_index c.turn.new.flow a) (slice_index xs a) (slice_index amounts a)) (sym dues) (lines a lt));
+      chosen = rw (c.pairs.ensures.value, c.deref.ensures.value) at c.in_ok-choose_again.ensures;
       ahead = c.in_ok-turned.ensures.ahead;
       behind = c.in_ok-turned.ensures.behind;
       waiting = rw (c.tickets-all.ensures.value, c.as_slice-2.ensures.value) at c.in_ok-wait_again.ensures;
     }
+
+pub choose_again-requires : goal.choose_again-requires
+choose_again-requires c =
+    let s : Standing = c.args.standing.now in
+    let stands = c.requires.stands in
+    let steps : List Step = c.turn.new.steps.items in
+    let round : IsCirculation s.net c.turn.new.flow = c.in_ok-turned.ensures.circulation in
+    let taken : AreTaken s.net s.counts.items c.turn.new.flow steps = rw (c.if-not-turned.false, c.deref_mut.ensures.value) at c.in_ok-turned.ensures.taken in
+    let counts : (with_items s.counts c.turn.new.flow).items ≡ c.turn.new.flow = with_items_is s.counts c.turn.new.flow (omega (arith, round.long, stands.circulates.long, s.counts.ok.0)) in
+    rw (c.pairs.ensures.value, c.deref.ensures.value, c.as_slice-4.ensures.value)
+    (subst (λ xs. AreChosenBut (amounts_in c.args.rules.now xs) steps 0 s.chosen.items) (sym counts)
+    (chosen-before c.args.rules.now s.counts.items c.turn.new.flow steps s.chosen.items stands.chosen
+    (size-of_chosen c.args.rules.now s.net s.counts.items stands.passes.size stands.circulates.long)
+    (size-of_chosen c.args.rules.now s.net c.turn.new.flow stands.passes.size round.long) taken.stay))
 
 pub returns-clause-last : goal.returns-clause-last
 returns-clause-last c =

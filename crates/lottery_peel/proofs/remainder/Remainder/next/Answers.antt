@@ -54,7 +54,7 @@ returns-clause-step c =
     let weighs : IsWeight left (flow_of all rest) counts (length (flow_of all rest)) weight = c.weight_of-weight.ensures.weighs in
     let after : next + weight ≡ left = omega (arith, weighs.most) in
     let places : c.from_vec.result ≡ chosen_places (amounts_in all counts) =
-    c.from_vec.ensures ∙ c.in_ok-places.ensures ∙ c.as_slice.ensures.value ∙ was.stands.chosen in
+    c.from_vec.ensures ∙ c.in_ok-places.ensures.items ∙ c.as_slice.ensures.value ∙ was.stands.chosen in
     let new : List ℕ = rest_of all next c.go_on.new.standing in
     let takes : AreLess rest (amounts_in all counts) new weight =
     subst (λ xs. AreLess rest (amounts_in all counts) xs weight) (sym (rest-kept all next s c.go_on.new.standing c.in_ok-go_on.ensures.stands)) (rest-less all left s weight next was some weighs after) in
