@@ -7,7 +7,7 @@ use Rattle.lottery_peel.specs.declared.standing.Standing.{Standing}
 use Rattle.lottery_peel.specs.Peeling.{AreLess, IsNext, IsStepTo, IsWeight}
 use Rattle.lottery_peel.specs.Remainder.{RemainderValue}
 use Rattle.lottery_peel.specs.Standing.{IsNextStanding, IsStanding, rest_of}
-use Rattle.lottery_peel.proofs.RestLaws.{rest-kept, rest-less, rest-long}
+use Rattle.lottery_peel.proofs.RestLaws.{own-rest, rest-kept, rest-less, rest-long}
 use Rattle.lottery_peel.proofs.StandingLaws.{next-standing, standing-given, ready-given}
 use Rattle.lottery_peel.proofs.remainder.Remainder.next.Goals as goal
 
@@ -61,3 +61,16 @@ returns-clause-step c =
     let piece : Piece = record { weight = weight; pairs = c.from_vec.result } in
     let step : IsStepTo all left rest counts piece next new = record { assigns = next-standing all left rest s was some; weighs = weighs; takes = takes; places = places; after = after } in
     subst (λ (r : RemainderValue). IsStepTo r.rules r.left r.rest r.counts piece next new) c.self.view_is step
+
+pub invariant_of-remainder : goal.invariant_of-remainder
+invariant_of-remainder c =
+    let all : RulesValue = c.self.inside.rules.now in
+    let left : ℕ = c.self.inside.left in
+    let next : ℕ = left - c.weight_of-weight.result in
+    let s : Standing = c.self.inside.standing in
+    let stands : IsStanding all next (rest_of all next s) c.go_on.new.standing = c.in_ok-go_on.ensures.stands in
+    record {
+      fewer = omega (arith, c.self.invariant.fewer);
+      stands = own-rest all next (rest_of all next s) c.go_on.new.standing stands (rest-long all next s);
+      tight = λ positive. (c.in_ok-go_on.ensures.next positive).tight;
+    }
