@@ -61,11 +61,7 @@ fn choose(
 /// of pairs stand first: steps over others change nothing.
 ///
 /// A step takes the time of a search in the places, and of moving those behind it.
-pub fn choose_again(
-    counts: &[u64],
-    steps: &[Step],
-    places: &mut Vec<u32>,
-) -> Result<(), AllocError>
+pub fn choose_again(counts: &[u64], steps: &[Step], places: &mut Vec<u32>) -> Result<(), AllocError>
     requires { AreChosenBut counts.now steps.now 0 places.old.items }
     ensures { OnOk result (places.new.items ≡ chosen_places counts.now) }
 {

@@ -14,12 +14,7 @@ use unit_turns::turn;
 
 // Gives a count that is due its other bound, by a unit over its arc and back along a path. There always is one: the amounts
 // that are left show it. What is left stays, since a count that changes is due at another ticket from now on.
-fn turn_due(
-    rules: &Rules,
-    left: u32,
-    standing: &mut Standing,
-    arc: u32,
-) -> Result<(), AllocError>
+fn turn_due(rules: &Rules, left: u32, standing: &mut Standing, arc: u32) -> Result<(), AllocError>
     requires stands { IsStanding rules.now left (rest_of rules.now left standing.old) standing.old }
     requires some { 1 ≤ left }
     requires arc_in { arc < length standing.old.net.arcs }
@@ -88,12 +83,7 @@ fn turn_if_due(
 }
 
 // Settles an amount that is a multiple: its count is what each ticket that is left takes, and its bounds leave no other.
-fn settle(
-    rules: &Rules,
-    left: u32,
-    standing: &mut Standing,
-    arc: u32,
-) -> Result<(), AllocError>
+fn settle(rules: &Rules, left: u32, standing: &mut Standing, arc: u32) -> Result<(), AllocError>
     requires stands { IsStanding rules.now left (rest_of rules.now left standing.old) standing.old }
     requires some { 1 ≤ left }
     requires arc_in { arc < length standing.old.net.arcs }

@@ -1,4 +1,4 @@
-use Rattle.std.proofs.Common.{ℕ, length, subst, arith}
+use Rattle.std.proofs.Common.{subst, arith}
 use Rattle.lottery_peel.specs.Choices.{AreChosenBut}
 use Rattle.lottery_peel.proofs.ChoiceLaws.{chosen-all}
 use Rattle.lottery_peel.proofs.choices.choose_again.Goals as goal

@@ -1,5 +1,4 @@
-use Rattle.std.proofs.Common.{◌≡◌, ℕ, List, Err, sym, subst, arith}
-use Rattle.std.specs.Prelude.{length}
+use Rattle.std.proofs.Common.{ℕ, List, Err, sym, subst}
 use Rattle.lottery_peel.specs.Choices.{IsTakenIn}
 use Rattle.lottery_peel.proofs.ChoiceLaws.{found-at, in-inserted}
 use Rattle.lottery_peel.proofs.choices.take_in.Goals as goal

@@ -1,5 +1,4 @@
-use Rattle.std.proofs.Common.{◌≡◌, ℕ, List, Err, Ok, sym, subst, arith}
-use Rattle.std.specs.Prelude.{length}
+use Rattle.std.proofs.Common.{ℕ, List, Err, Ok, sym, subst}
 use Rattle.lottery_peel.specs.Choices.{IsTakenOut}
 use Rattle.lottery_peel.proofs.ChoiceLaws.{found-at, out-already, out-removed}
 use Rattle.lottery_peel.proofs.choices.take_out.Goals as goal

@@ -4,7 +4,7 @@ use Rattle.match_rules.specs.Chosen.{chosen_places}
 use Rattle.match_rules.specs.Rules.{RulesValue}
 use Rattle.bounded_network.specs.Compile.{amounts_in, flow_of}
 use Rattle.lottery_peel.specs.declared.standing.Standing.{Standing}
-use Rattle.lottery_peel.specs.Peeling.{AreLess, IsNext, IsStepTo, IsWeight}
+use Rattle.lottery_peel.specs.Peeling.{AreLess, IsStepTo, IsWeight}
 use Rattle.lottery_peel.specs.Remainder.{RemainderValue}
 use Rattle.lottery_peel.specs.Standing.{IsNextStanding, IsStanding, rest_of}
 use Rattle.lottery_peel.proofs.RestLaws.{own-rest, rest-kept, rest-less, rest-long}

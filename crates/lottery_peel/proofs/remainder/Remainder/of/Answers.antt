@@ -1,7 +1,7 @@
-use Rattle.std.proofs.Common.{◌≡◌, ℕ, List, ap, ◌∙◌, subst, arith, sym}
+use Rattle.std.proofs.Common.{arith}
 use Rattle.match_rules.specs.Rules.{RulesValue}
 use Rattle.lottery_peel.specs.declared.standing.Standing.{Standing}
-use Rattle.lottery_peel.specs.Standing.{IsNextStanding, rest_of}
+use Rattle.lottery_peel.specs.Standing.{IsNextStanding}
 use Rattle.lottery_peel.proofs.RestLaws.{own-rest, rest-is}
 use Rattle.lottery_peel.proofs.remainder.Remainder.of.Goals as goal
 
