@@ -1,4 +1,5 @@
 pub mod AmountLists
+pub mod ChoiceLaws
 pub mod DueLaws
 pub mod DueLists
 pub mod FlowSteps
@@ -8,6 +9,6 @@ pub mod LoopLaws
 pub mod NetLaws
 pub mod OneAmount
 pub mod PeeledLaws
+pub mod RestLaws
 pub mod StandingLaws
-pub mod Takings
 pub mod Weighing

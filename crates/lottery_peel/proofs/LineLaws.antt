@@ -10,7 +10,7 @@ use Rattle.lottery_peel.specs.Standing.{IsLine, IsTight}
 use Rattle.lottery_peel.proofs.OneAmount.{parts}
 
 -- a count is the floor or a unit more
-floor_or_more : (floor room count : ℕ) → room ≤ floor + 1 → floor ≤ count → count ≤ room → (count ≡ floor) ⊎ ((count ≡ floor + 1) × (room ≡ floor + 1))
+pub floor_or_more : (floor room count : ℕ) → room ≤ floor + 1 → floor ≤ count → count ≤ room → (count ≡ floor) ⊎ ((count ≡ floor + 1) × (room ≡ floor + 1))
 floor_or_more floor room count narrow above below = elim (cases_eq count floor) [
   | inl same ↦ inl same
   | inr other ↦ inr (omega arith, omega arith)

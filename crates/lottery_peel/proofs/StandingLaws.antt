@@ -100,6 +100,7 @@ standing-given rules left rest s weight next new was fewer long less tickets lea
           let late = least.within a (omega (arith, lt, was.stands.long)) in
           line-next rules.tickets left (arc_at s.net a) (slice_index s.counts.items a) (slice_index s.dues.items a) (slice_index (flow_of rules rest) a) weight next (slice_index (flow_of rules new) a)
           (was.stands.lines a lt) tickets (given.each a (omega (arith, lt, size))) (omega (arith, late, tickets, fewer));
+      chosen = was.stands.chosen;
       ahead = was.stands.ahead;
       behind = was.stands.behind;
       waiting = was.stands.waiting;
@@ -273,6 +274,7 @@ standing-held rules left rest s a stands lt last =
       circulates = circulation-held s.net a count s.counts.items lt stands.circulates refl;
       long = stands.long ∙ sym (held-long s.net a count);
       lines = lines-held rules.tickets left s.net a s.counts.items s.dues.items (flow_of rules rest) lt last stands.lines;
+      chosen = stands.chosen;
       ahead = record { none = stands.ahead.none; long = stands.ahead.long; unplaced = stands.ahead.unplaced };
       behind = record { none = stands.behind.none; long = stands.behind.long; unplaced = stands.behind.unplaced };
       waiting = stands.waiting;

@@ -1,3 +1,4 @@
+pub mod Choices
 pub mod Peeling
 pub mod Remainder
 pub mod Standing

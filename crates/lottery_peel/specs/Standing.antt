@@ -1,9 +1,10 @@
 -- Counts of a next assignment that stand from piece to piece, each until the ticket at which it is due. Tickets are counted
 -- from the first piece on: those that are not left are used.
-use Rattle.std.specs.Prelude.{◌≡◌, ◌≢◌, ℕ, ◌+◌, ◌*◌, ◌<◌, ◌≤◌, ◌⊎◌, List, [], length, slice_index, slice_index_or, Contains, pos}
+use Rattle.std.specs.Prelude.{◌≡◌, ◌≢◌, ℕ, ◌+◌, ◌*◌, ◌<◌, ◌≤◌, ◌⊎◌, ◌-◌, ◌==◌, if◌then◌else◌, List, [], length, slice_index, slice_index_or, Contains, pos}
+use Rattle.match_rules.specs.Chosen.{chosen_places}
 use Rattle.match_rules.specs.Rules.{RulesValue}
 use Rattle.bounded_network.specs.declared.network.Arc.{Arc}
-use Rattle.bounded_network.specs.Compile.{amounts_in, flow_of, place_count}
+use Rattle.bounded_network.specs.Compile.{amounts_in, flow_of, listed, place_count}
 use Rattle.bounded_network.specs.Network.{NetworkValue, IsCirculation, arc_at, entering, leaving}
 use Rattle.bounded_network.specs.Spans.{rounded}
 use Rattle.residual_arcs.specs.declared.step.Step.{Step}
@@ -24,6 +25,11 @@ pub record IsLine (all left : ℕ) (arc : Arc) (count due amount : ℕ) : Type 0
   pub most : amount ≤ left * arc.room
   pub down : count ≡ arc.floor → due + amount ≡ all + left * arc.floor
   pub up : count ≡ arc.floor + 1 → due + (left * arc.floor + left) ≡ all + amount
+
+-- the amount that lies on such a line: the bounds, the count and its ticket leave no other
+abbrev pub amount_by : ℕ → ℕ → Arc → ℕ → ℕ → ℕ
+amount_by all left arc count due =
+    if count == arc.floor then ((all + left * arc.floor) - due) else ((due + (left * arc.floor + left)) - all)
 
 -- an arc on which an amount is rounded down to the floor or up to a unit more
 abbrev pub unit_arc : ℕ → Arc
@@ -92,14 +98,20 @@ TightAt all left standing a = IsTight all left (arc_at standing.net a) (slice_in
 abbrev pub MultipleAt : ℕ → ℕ → Standing → ℕ → Type 0
 MultipleAt all left standing a = IsMultiple all left (slice_index standing.dues.items a)
 
--- A circulation within bounds that hold the amounts that are left of pairs, papers, groups and reviewers, and what is needed
--- to turn units in it.
+-- what is left of the share of each pair, by what stands at its arc
+unfoldable pub rest_of : RulesValue → ℕ → Standing → List ℕ
+rest_of rules left standing = listed (length rules.pairs)
+    (λ e. amount_by rules.tickets left (arc_at standing.net e) (slice_index standing.counts.items e) (slice_index standing.dues.items e))
+
+-- A circulation within bounds that hold the amounts that are left of pairs, papers, groups and reviewers, the places of the pairs
+-- that have a count, and what is needed to turn units in it.
 pub record IsStanding (rules : RulesValue) (left : ℕ) (rest : List ℕ) (standing : Standing) : Type 0 where
   pub passes : PassesOn rules standing.net
   pub links : AreLinksOver standing.net standing.links
   pub circulates : IsCirculation standing.net standing.counts.items
   pub long : length standing.dues.items ≡ length standing.net.arcs
   pub lines : (a : ℕ) → a < length standing.net.arcs → LineAt rules.tickets left standing (flow_of rules rest) a
+  pub chosen : standing.chosen.items ≡ chosen_places (amounts_in rules standing.counts.items)
   pub ahead : IsBlank standing.net standing.ahead
   pub behind : IsBlank standing.net standing.behind
   pub waiting : AreWaiting rules.tickets standing.dues.items standing.waiting

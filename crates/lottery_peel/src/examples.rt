@@ -4,7 +4,7 @@ ghost use Rattle.std.specs.Prelude.{◌≡◌, [], ◌∷◌, true, false};
 ghost use Rattle.match_rules.specs.Examples.{small, thirds, two_houses, piece};
 ghost use Rattle.bounded_network.specs.Compile.{flow_of};
 ghost use Rattle.lottery_peel.specs.Peeling.{open_part, open_count, unwhole_count, limit, same_places};
-ghost use Rattle.lottery_peel.specs.Standing.{IsLine, unit_arc};
+ghost use Rattle.lottery_peel.specs.Standing.{IsLine, amount_by, unit_arc};
 
 /// Amounts that are rounded, and for how many tickets their counts may stand.
 pub fn worked_steps()
@@ -35,6 +35,9 @@ pub fn worked_steps()
     ensures due_low { IsLine 10000 10000 (unit_arc 0) 0 7000 3000 }
     ensures due_high { IsLine 10000 10000 (unit_arc 0) 1 3000 3000 }
     ensures due_turned { IsLine 10000 9000 (unit_arc 0) 1 4000 3000 }
+    // So the count and its ticket say what is left: 3,000 of 9,000 tickets, and none at ticket 4,000, when it is due.
+    ensures amount_left { amount_by 10000 9000 (unit_arc 0) 1 4000 ≡ 3000 }
+    ensures amount_given { amount_by 10000 6000 (unit_arc 0) 1 4000 ≡ 0 }
     // Places, and not weights, tell pieces apart.
     ensures same { same_places (piece 7000 (0 ∷ (3 ∷ []))) (piece 3000 (0 ∷ (3 ∷ []))) ≡ true }
     ensures other { same_places (piece 7000 (0 ∷ (3 ∷ []))) (piece 7000 (1 ∷ (2 ∷ []))) ≡ false }

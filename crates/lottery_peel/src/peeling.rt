@@ -40,8 +40,8 @@ fn pieces_of(alloc: Global, rules: &Rules, shares: &Shares) -> Result<Vec<Piece>
 /// This is Birkhoff's decomposition, for two families of nested sets (Budish, Che, Kojima and Milgrom, *Designing random
 /// allocation mechanisms: theory and applications*, American Economic Review 2013), by networks with rounded bounds. The
 /// first piece takes a flow. Each later one is the last one, repaired: an amount that has become a multiple of the tickets that
-/// are left gets its other count by a unit over its arc and back along a path. So a piece takes time in proportion to the pairs
-/// that have tickets left, beside these paths. Memory is that of the lottery, the network and the rules.
+/// are left gets its other count by a unit over its arc and back along a path. Beside these paths a piece takes time in proportion
+/// to its pairs, which it copies out. Memory is that of the lottery, the network and the rules.
 pub fn peel(alloc: Global, rules: &Rules, shares: &Shares) -> Result<Lottery, AllocError>
     requires plain { Plain rules.now }
     requires fit { SharesFit rules.now EveryPair shares.now }

@@ -4,52 +4,51 @@ ghost use Rattle.std.specs.Prelude.{◌≡◌, ◌+◌, ◌<◌, ◌≤◌, ◌�
 ghost use Rattle.match_rules.specs.Plain.{Plain};
 ghost use Rattle.match_rules.specs.Rules.{AreRules};
 ghost use Rattle.lottery_peel.specs.Peeling.{IsStepTo};
-ghost use Rattle.lottery_peel.specs.Standing.{IsNextStanding, IsStanding, TightAt};
+ghost use Rattle.lottery_peel.specs.Standing.{IsNextStanding, IsStanding, TightAt, rest_of};
 
 use crate::settling::advance;
 use crate::standing::{Standing, first_standing};
 use crate::weights::weight_of;
-use match_rules::{Piece, Rules, Shares};
-use sparse_shares::SparseShares;
+use match_rules::{Piece, Places, Rules, Shares};
 use std::alloc::{AllocError, Global};
 use std::marker::Model;
 
-/// The tickets that are left, what is left of the shares, in rows, and the counts of a next assignment of it. Contracts see the
-/// amounts and the counts.
+/// The tickets that are left and the counts of a next assignment. What is left of the shares is kept nowhere: the counts, and the
+/// tickets at which they are due, say it. Contracts see the amounts and the counts.
 #[derive(Drop)]
 pub struct Remainder<'a> {
     rules: &'a Rules,
     left: u32,
-    rest: SparseShares,
     standing: Standing,
     arcs: Vec<u32>,
 }
 
 impl<'a> Model for Remainder<'a> {
     ghost use Rattle.lottery_peel.specs.Remainder.{IsRemainder, RemainderValue};
+    ghost use Rattle.lottery_peel.specs.Standing.{rest_of};
 
     ghost Value = { RemainderValue };
 
-    ghost view = { λ s. record { rules = s.rules.now; left = s.left; rest = s.rest; counts = s.standing.counts.items } };
+    ghost view = { λ s. record { rules = s.rules.now; left = s.left; rest = rest_of s.rules.now s.left s.standing; counts = s.standing.counts.items } };
 
-    ghost invariant = { λ s. IsRemainder s.rules.now s.left s.rest s.standing };
+    ghost invariant = { λ s. IsRemainder s.rules.now s.left (rest_of s.rules.now s.left s.standing) s.standing };
 }
 
 // Makes the counts those of a next assignment, unless no tickets are left.
 fn go_on(
     rules: &Rules,
-    rest: &SparseShares,
     left: u32,
     standing: &mut Standing,
     arcs: &mut Vec<u32>,
 ) -> Result<(), AllocError>
     requires fewer { left ≤ rules.now.tickets }
-    requires stands { 1 ≤ left → IsStanding rules.now left rest.now standing.old }
+    requires stands { IsStanding rules.now left (rest_of rules.now left standing.old) standing.old }
     requires ready { 1 ≤ left → (a : ℕ) → a < length standing.old.net.arcs → (TightAt rules.now.tickets left standing.old a ⊎ (slice_index standing.old.dues.items a + left ≡ rules.now.tickets)) }
-    ensures { OnOk result (1 ≤ left → IsNextStanding rules.now left rest.now standing.new) }
+    ensures stands { OnOk result (IsStanding rules.now left (rest_of rules.now left standing.old) standing.new) }
+    ensures next { OnOk result (1 ≤ left → IsNextStanding rules.now left (rest_of rules.now left standing.old) standing.new) }
 {
     if left > 0 {
-        advance(rules, rest, left, standing, arcs)?;
+        advance(rules, left, standing, arcs)?;
     }
     Ok(())
 }
@@ -68,11 +67,9 @@ impl<'a> Remainder<'a> {
     {
         let left = rules.tickets();
         let standing = first_standing(alloc, rules, shares)?;
-        let rest = SparseShares::of(alloc, shares)?;
         Ok(Remainder {
             rules,
             left,
-            rest,
             standing,
             arcs: Vec::new(alloc),
         })
@@ -94,24 +91,20 @@ impl<'a> Remainder<'a> {
         let Remainder {
             rules,
             left,
-            mut rest,
             mut standing,
             mut arcs,
         } = self;
-        let pairs = rules.pairs().len();
-        let weight = weight_of(rules, &rest, left, &standing);
-        let chosen = &standing.counts[..pairs];
-        let places = rest.give(alloc, chosen, weight)?;
+        let weight = weight_of(rules, left, &standing);
+        let places = Vec::from_slice(alloc, standing.chosen.as_slice())?;
         let next = left - weight;
-        go_on(rules, &rest, next, &mut standing, &mut arcs)?;
+        go_on(rules, next, &mut standing, &mut arcs)?;
         let piece = Piece {
             weight,
-            pairs: places,
+            pairs: Places::from_vec(places),
         };
         let remainder = Remainder {
             rules,
             left: next,
-            rest,
             standing,
             arcs,
         };

@@ -12,19 +12,21 @@ use crate::dues::all_waiting;
 use crate::weights::limit_of;
 use bounded_network::{Amounts, Network, amounts_of, compile};
 use flow_solver::{Solution, solve};
-use match_rules::{Rules, Shares, Sieve};
+use match_rules::{Rules, Shares, Sieve, chosen_places};
 use residual_arcs::{Links, Step, links_of};
 use std::alloc::{AllocError, Global};
 use unit_turns::{Side, blank, links_serve};
 
 /// The counts of a next assignment, at the places of the arcs of the rounded network, and for each the ticket at which it is
-/// due: until then it may stand, and its arc waits in the list of that ticket. What else is here serves to turn units.
+/// due: until then it may stand, and its arc waits in the list of that ticket. The places of the pairs that have a count are kept
+/// beside them. What else is here serves to turn units.
 #[derive(Drop)]
 pub struct Standing {
     pub net: Network,
     pub links: Links,
     pub counts: Vec<u64>,
     pub dues: Vec<u32>,
+    pub chosen: Vec<u32>,
     pub waiting: DueLists,
     pub ahead: Side,
     pub behind: Side,
@@ -91,6 +93,8 @@ pub fn first_standing(alloc: Global, rules: &Rules, shares: &Shares) -> Result<S
     let dues = first_dues(alloc, rules, shares, counts.as_slice())?;
     let _arcs = net.arcs();
     let waiting = all_waiting(alloc, rules.tickets(), dues.as_slice())?;
+    let places = chosen_places(alloc, &counts[..rules.pairs().len()])?;
+    let chosen = places.into_vec();
     let links = links_of(alloc, &net)?;
     links_serve(&net, &links);
     let ahead = blank(alloc, &net)?;
@@ -100,6 +104,7 @@ pub fn first_standing(alloc: Global, rules: &Rules, shares: &Shares) -> Result<S
         links,
         counts,
         dues,
+        chosen,
         waiting,
         ahead,
         behind,

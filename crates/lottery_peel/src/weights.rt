@@ -3,12 +3,11 @@
 ghost use Rattle.std.specs.Prelude.{◌≡◌, ◌+◌, ◌-◌, ◌≤◌, length};
 ghost use Rattle.bounded_network.specs.Compile.{flow_of};
 ghost use Rattle.lottery_peel.specs.Peeling.{limit, IsWeight};
-ghost use Rattle.lottery_peel.specs.Standing.{IsLeastDue, IsNextStanding};
+ghost use Rattle.lottery_peel.specs.Standing.{IsLeastDue, IsNextStanding, rest_of};
 
 use crate::dues::least_due;
 use crate::standing::Standing;
 use match_rules::Rules;
-use sparse_shares::SparseShares;
 
 /// For how many of the tickets that are left a count may stand.
 pub fn limit_of(left: u64, amount: u64, count: u64) -> u64
@@ -27,11 +26,11 @@ pub fn limit_of(left: u64, amount: u64, count: u64) -> u64
 }
 
 /// The greatest number of tickets for which all counts may stand, up to those that are left: until one is due.
-pub fn weight_of(rules: &Rules, rest: &SparseShares, left: u32, standing: &Standing) -> u32
+pub fn weight_of(rules: &Rules, left: u32, standing: &Standing) -> u32
     requires some { 1 ≤ left }
     requires fewer { left ≤ rules.now.tickets }
-    requires next { IsNextStanding rules.now left rest.now standing.now }
-    ensures weighs { IsWeight left (flow_of rules.now rest.now) standing.now.counts.items (length (flow_of rules.now rest.now)) result }
+    requires next { IsNextStanding rules.now left (rest_of rules.now left standing.now) standing.now }
+    ensures weighs { IsWeight left (flow_of rules.now (rest_of rules.now left standing.now)) standing.now.counts.items (length (flow_of rules.now (rest_of rules.now left standing.now))) result }
     ensures least { IsLeastDue rules.now.tickets standing.now.dues.items (rules.now.tickets - left + result) }
 {
     let all = rules.tickets();

@@ -3,7 +3,7 @@ use Rattle.std.specs.Prelude.{slice_index}
 use Rattle.std.proofs.lemmas.List.{get_or_read}
 use Rattle.bounded_network.specs.Network.{NetworkValue, arc_at, with_bounds}
 use Rattle.lottery_peel.specs.declared.standing.Standing.{Standing}
-use Rattle.lottery_peel.specs.Standing.{IsStanding, IsTight}
+use Rattle.lottery_peel.specs.Standing.{IsStanding, IsTight, rest_of}
 use Rattle.lottery_peel.proofs.StandingLaws.{standing-held, tight-held}
 use Rattle.lottery_peel.proofs.settling.settle.Goals as goal
 
@@ -17,8 +17,8 @@ returns-clause-stands c =
     let room = (c.nodes-nodes.ensures.kept.each c.args.arc lt).room in
     let done = c.rebound-held.ensures.set (c.rebound-held.ensures.bounds.1 (lt, omega arith, omega (arith, here, room, stands.circulates.rooms c.args.arc lt))) in
     let held : c.rebound-held.new.self ≡ with_bounds s.net c.args.arc count count = rw here at done in
-    subst (λ (net : NetworkValue). IsStanding c.args.rules.now c.args.left c.args.rest.now (record s { net = net })) (sym held)
-    (standing-held c.args.rules.now c.args.left c.args.rest.now s c.args.arc stands lt c.in_ok-turn_if_due.ensures.last)
+    subst (λ (net : NetworkValue). IsStanding c.args.rules.now c.args.left (rest_of c.args.rules.now c.args.left c.args.standing.now) (record s { net = net })) (sym held)
+    (standing-held c.args.rules.now c.args.left (rest_of c.args.rules.now c.args.left c.args.standing.now) s c.args.arc stands lt c.in_ok-turn_if_due.ensures.last)
 
 pub returns-clause-settled : goal.returns-clause-settled
 returns-clause-settled c =

@@ -2,14 +2,17 @@ use Rattle.std.proofs.Common.{◌≡◌, ◌≢◌, ℕ, ◌+◌, ◌-◌, ◌<�
 use Rattle.std.specs.Prelude.{slice_index}
 use Rattle.std.specs.Vec.{with_items}
 use Rattle.std.proofs.lemmas.List.{get_or_read, with_items_is}
-use Rattle.bounded_network.specs.Compile.{flow_of}
+use Rattle.bounded_network.specs.Compile.{amounts_in, flow_of}
 use Rattle.bounded_network.specs.Network.{IsCirculation, AreViolated, arc_at}
 use Rattle.residual_arcs.specs.declared.step.Step.{Step}
 use Rattle.residual_arcs.specs.Step.{carried}
 use Rattle.unit_turns.specs.Fixed.{with_fixed}
 use Rattle.unit_turns.specs.Steps.{AreFree, AreTaken, step_at}
 use Rattle.lottery_peel.specs.declared.standing.Standing.{Standing}
-use Rattle.lottery_peel.specs.Standing.{AreTurned, IsLine, IsMultiple, IsTight, Waits}
+use Rattle.lottery_peel.specs.Standing.{rest_of, AreTurned, IsLine, IsMultiple, IsTight, Waits}
+use Rattle.lottery_peel.specs.Choices.{AreChosenBut}
+use Rattle.lottery_peel.proofs.ChoiceLaws.{chosen-before}
+use Rattle.lottery_peel.proofs.RestLaws.{size-of_chosen}
 use Rattle.lottery_peel.proofs.DueLaws.{waits-others}
 use Rattle.lottery_peel.proofs.StandingLaws.{dues-between, due-possible, first-turned, lines-turned, multiple-turned, other-way, tight-turned}
 use Rattle.lottery_peel.proofs.settling.turn_due.Goals as goal
@@ -24,7 +27,7 @@ unreachable-requires c =
     let broken : (marks : List Bool) × AreViolated (with_fixed s.net arc (carried count (ltb count (arc_at s.net arc).room) 1)) marks =
     rw (c.if-not-turned.true, c.deref_mut.ensures.value, here, c.arc_of.ensures.value) at c.in_ok-turned.ensures.violated in
     absurd
-    (due-possible c.args.rules.now c.args.left c.args.rest.now s arc (ltb count (arc_at s.net arc).room) c.arc_of.ensures.kept c.requires.stands c.requires.some c.requires.arc_in c.requires.is_due
+    (due-possible c.args.rules.now c.args.left (rest_of c.args.rules.now c.args.left c.args.standing.now) s arc (ltb count (arc_at s.net arc).room) c.arc_of.ensures.kept c.requires.stands c.requires.some c.requires.arc_in c.requires.is_due
     (other-way (arc_at s.net arc) count) broken.0 broken.1)
 
 pub set_dues-requires-clause-after : goal.set_dues-requires-clause-after
@@ -32,7 +35,7 @@ set_dues-requires-clause-after c =
     let taken : AreTaken c.args.standing.now.net c.deref_mut.result.now c.turn.new.flow c.turn.new.steps.items = rw c.if-not-turned.false at c.in_ok-turned.ensures.taken in
     rw (c.tickets-all.ensures.value, c.as_slice.ensures.value, c.deref_mut-2.ensures.value)
     (λ i lt.
-    let both = dues-between c.args.rules.now c.args.left c.args.rest.now c.args.standing.now c.requires.stands (step_at c.turn.new.steps.items i).arc (taken.arcs i lt) in
+    let both = dues-between c.args.rules.now c.args.left (rest_of c.args.rules.now c.args.left c.args.standing.now) c.args.standing.now c.requires.stands (step_at c.turn.new.steps.items i).arc (taken.arcs i lt) in
     omega (arith, both.1))
 
 pub set_dues-requires-clause-before : goal.set_dues-requires-clause-before
@@ -40,7 +43,7 @@ set_dues-requires-clause-before c =
     let taken : AreTaken c.args.standing.now.net c.deref_mut.result.now c.turn.new.flow c.turn.new.steps.items = rw c.if-not-turned.false at c.in_ok-turned.ensures.taken in
     rw (c.tickets-all.ensures.value, c.as_slice.ensures.value, c.deref_mut-2.ensures.value)
     (λ i lt.
-    (dues-between c.args.rules.now c.args.left c.args.rest.now c.args.standing.now c.requires.stands (step_at c.turn.new.steps.items i).arc (taken.arcs i lt)).0)
+    (dues-between c.args.rules.now c.args.left (rest_of c.args.rules.now c.args.left c.args.standing.now) c.args.standing.now c.requires.stands (step_at c.turn.new.steps.items i).arc (taken.arcs i lt)).0)
 
 pub wait_again-requires-clause-within : goal.wait_again-requires-clause-within
 wait_again-requires-clause-within c =
@@ -75,7 +78,7 @@ returns-clause-stands c =
     let left : ℕ = c.args.left in
     let steps : List Step = c.turn.new.steps.items in
     let stands = c.requires.stands in
-    let amounts : List ℕ = flow_of c.args.rules.now c.args.rest.now in
+    let amounts : List ℕ = flow_of c.args.rules.now (rest_of c.args.rules.now c.args.left c.args.standing.now) in
     let round : IsCirculation s.net c.turn.new.flow = c.in_ok-turned.ensures.circulation in
     let taken : AreTaken s.net s.counts.items c.turn.new.flow steps = rw (c.if-not-turned.false, c.deref_mut.ensures.value) at c.in_ok-turned.ensures.taken in
     let free : AreFree s.net s.counts.items steps = rw (c.if-not-turned.false, c.deref_mut.ensures.value) at c.in_ok-turned.ensures.free in
@@ -93,10 +96,25 @@ returns-clause-stands c =
       lines = λ a lt.
           subst (λ xs. IsLine all left (arc_at s.net a) (slice_index xs a) (slice_index (with_items s.dues c.set_dues.new.dues).items a) (slice_index amounts a)) (sym counts)
           (subst (λ xs. IsLine all left (arc_at s.net a) (slice_index c.turn.new.flow a) (slice_index xs a) (slice_index amounts a)) (sym dues) (lines a lt));
+      chosen = rw (c.pairs.ensures.value, c.deref.ensures.value) at c.in_ok-choose_again.ensures;
       ahead = c.in_ok-turned.ensures.ahead;
       behind = c.in_ok-turned.ensures.behind;
       waiting = rw (c.tickets-all.ensures.value, c.as_slice-2.ensures.value) at c.in_ok-wait_again.ensures;
     }
+
+pub choose_again-requires : goal.choose_again-requires
+choose_again-requires c =
+    let s : Standing = c.args.standing.now in
+    let stands = c.requires.stands in
+    let steps : List Step = c.turn.new.steps.items in
+    let round : IsCirculation s.net c.turn.new.flow = c.in_ok-turned.ensures.circulation in
+    let taken : AreTaken s.net s.counts.items c.turn.new.flow steps = rw (c.if-not-turned.false, c.deref_mut.ensures.value) at c.in_ok-turned.ensures.taken in
+    let counts : (with_items s.counts c.turn.new.flow).items ≡ c.turn.new.flow = with_items_is s.counts c.turn.new.flow (omega (arith, round.long, stands.circulates.long, s.counts.ok.0)) in
+    rw (c.pairs.ensures.value, c.deref.ensures.value, c.as_slice-4.ensures.value)
+    (subst (λ xs. AreChosenBut (amounts_in c.args.rules.now xs) steps 0 s.chosen.items) (sym counts)
+    (chosen-before c.args.rules.now s.counts.items c.turn.new.flow steps s.chosen.items stands.chosen
+    (size-of_chosen c.args.rules.now s.net s.counts.items stands.passes.size stands.circulates.long)
+    (size-of_chosen c.args.rules.now s.net c.turn.new.flow stands.passes.size round.long) taken.stay))
 
 pub returns-clause-last : goal.returns-clause-last
 returns-clause-last c =

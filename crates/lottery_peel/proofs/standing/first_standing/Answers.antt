@@ -20,6 +20,7 @@ returns c =
         circulates = c.in_ok-counts.ensures;
         long = first.long ∙ flow-length all c.args.shares.now ∙ sym passes.size;
         lines = λ a lt. (at a lt).0;
+        chosen = c.into_vec-chosen.ensures ∙ rw (c.pairs.ensures.value, c.deref.ensures.value) at c.in_ok-places.ensures.value;
         ahead = c.in_ok-ahead.ensures;
         behind = c.in_ok-behind.ensures;
         waiting = waiting;
