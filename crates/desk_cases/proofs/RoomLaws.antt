@@ -1,12 +1,14 @@
 -- What the benches were given stays at work, and may be handed in.
-use Rattle.std.proofs.Common.{◌≡◌, List, Option, None, Some, Result, Ok, Err, All, refl, subst, sym, ap}
-use Rattle.std.proofs.lemmas.List.Elements.{All-weaker}
+use Rattle.std.proofs.Common.{◌≡◌, ℕ, List, Option, None, Some, Result, Ok, Err, All, refl, subst, sym, ap, take, drop, suc}
+use Rattle.std.proofs.lemmas.List.Elements.{All-weaker, All-append, All-take, All-drop}
+use Rattle.std.specs.List.{remove}
 use Rattle.match_rules.specs.declared.answer.Answer.{Answer}
 use Rattle.publication.specs.declared.certificate.Certificate.{Certificate}
 use Rattle.desk_history.specs.declared.entries.Entry.{Entry}
 use Rattle.desk_history.specs.declared.refusals.Refusal.{Refusal}
 use Rattle.desk_history.specs.declared.replies.Answered.{Answered}
 use Rattle.desk_history.specs.declared.replies.Answered.TheVariants.{Taken}
+use Rattle.desk_history.specs.declared.replies.Answered.TheVariants as answered
 use Rattle.desk_history.specs.declared.replies.Snapshot.{Snapshot}
 use Rattle.desk_history.specs.declared.requests.Work.{Work}
 use Rattle.desk_history.specs.declared.requests.Work.TheVariants as work
@@ -17,7 +19,7 @@ use Rattle.desk_history.specs.Looks.{Step}
 use Rattle.desk_history.specs.Steps.{IsRightFor, IsWorkFor, take_step, with_entry}
 use Rattle.desk_history.proofs.WorkLaws.{work_right, work_stays, work_taken}
 use Rattle.desk_cases.specs.declared.rooms.Given.{Given}
-use Rattle.desk_cases.specs.Rooms.{IsMadeOf}
+use Rattle.desk_cases.specs.Rooms.{IfTaken, IsMadeOf}
 
 entry_stays : (entry : Option Entry) (H : History) (given : Snapshot) → IsAtWork H given → IsAtWork (with_entry entry H) given
 entry_stays None H given at = at
@@ -42,3 +44,25 @@ pub made_work : (H : History) (given : Snapshot) (done : Work) → IsAtWork H gi
 made_work H given (work.Answered certificate) at made =
     subst (λ (c : Certificate). IsRightFor H given.job c) (ap (λ rules. record { rules = rules; answer = certificate.answer }) (sym made.0)) (work_right H given certificate.answer at made.1)
 made_work H given work.OutOfMemory at made = tt
+
+-- with a job, if it was given one
+pub if_taken : (H : History) (bench : ℕ) (reply : Result Answered Refusal) (next : History) → Does (take_step H bench) H reply next → IfTaken (IsAtWork next) reply
+if_taken H bench (Ok (Taken given)) next does = taken_work H bench given next does
+if_taken H bench (Ok (answered.Edited edition)) next does = tt
+if_taken H bench (Ok (answered.Submitted job)) next does = tt
+if_taken H bench (Ok (answered.Published publication)) next does = tt
+if_taken H bench (Ok (answered.Drawn publication ticket)) next does = tt
+if_taken H bench (Ok (answered.Edition edition)) next does = tt
+if_taken H bench (Ok (answered.Rules value)) next does = tt
+if_taken H bench (Ok (answered.Job job edition mode outcome)) next does = tt
+if_taken H bench (Ok (answered.Certificate certificate)) next does = tt
+if_taken H bench (Ok (answered.Pairs pairs)) next does = tt
+if_taken H bench (Ok (answered.Finished job outcome)) next does = tt
+if_taken H bench (Ok (answered.Released job)) next does = tt
+if_taken H bench (Err refusal) next does = tt
+
+-- and the others keep theirs where one gives its own away
+pub all_but : (H : History) (items : List Given) (at : ℕ) (left : List Given) → left ≡ remove items at → All (λ its. IsAtWork H its.snapshot) items → All (λ its. IsAtWork H its.snapshot) left
+all_but H items at left is work =
+    let P : Given → Type 0 = λ its. IsAtWork H its.snapshot in
+    subst (All P) (sym is) (All-append P (take at items) (drop (suc at) items) (All-take P at items work) (All-drop P (suc at) items work))

@@ -1,7 +1,10 @@
 -- A desk with its keeper, and what its benches were given.
-use Rattle.std.specs.Prelude.{◌≡◌, List, All, Some, Vec, ⊤}
+use Rattle.std.specs.Prelude.{◌≡◌, List, All, Some, Result, Ok, Vec, ⊤}
 use Rattle.std.specs.declared.alloc.Global.{Global}
 use Rattle.desk_keeper.specs.Keepers.{KeeperValue, Tells}
+use Rattle.desk_history.specs.declared.refusals.Refusal.{Refusal}
+use Rattle.desk_history.specs.declared.replies.Answered.{Answered}
+use Rattle.desk_history.specs.declared.replies.Answered.TheVariants.{Taken}
 use Rattle.desk_history.specs.declared.replies.Snapshot.{Snapshot}
 use Rattle.desk_history.specs.declared.requests.Work.{Work}
 use Rattle.desk_history.specs.declared.requests.Work.TheVariants as work
@@ -21,3 +24,8 @@ pub record IsRoom (desk : DeskValue) (keeper : KeeperValue) (given : Vec Given G
 abbrev pub IsMadeOf : Snapshot → Work → Type 0
 IsMadeOf given (work.Answered certificate) = (certificate.rules ≡ given.rules) × IsRight given.rules given.mode certificate.answer
 IsMadeOf given work.OutOfMemory = ⊤
+
+-- a fact of what a bench was given, where it was
+abbrev pub IfTaken : (Snapshot → Type 0) → Result Answered Refusal → Type 0
+IfTaken P (Ok (Taken given)) = P given
+IfTaken P other = ⊤

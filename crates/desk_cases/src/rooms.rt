@@ -6,6 +6,7 @@ ghost use Rattle.desk_history.specs.Courses.{Does};
 ghost use Rattle.desk_history.specs.Laws.{IsAtWork};
 ghost use Rattle.desk_history.specs.Steps.{MayAsk, step};
 ghost use Rattle.desk_laws.specs.Reopened.{AreNames};
+ghost use Rattle.desk_cases.specs.Rooms.{IfTaken};
 
 use crate::replies::print_reply;
 use crate::rows::rows_of;
@@ -110,15 +111,26 @@ impl Room {
         Ok(())
     }
 
+    // Notes what a bench was given, if it was.
+    fn note_taken(&mut self, bench: u32, reply: Result<Answered, Refusal>) -> Result<(), AllocError>
+        requires { IfTaken (IsAtWork self.old.history) reply }
+    {
+        match reply {
+            Ok(answered) => match answered {
+                Answered::Taken(snapshot) => self.note(bench, snapshot),
+                _ => Ok(()),
+            },
+            Err(_) => Ok(()),
+        }
+    }
+
     /// A bench takes a job.
     pub(crate) fn take(&mut self, rt: &HostRuntime, bench: u32) -> anyhow::Result<()>
         requires { bench < BENCHES }
     {
         let reply = self.answer(Request::Take { bench });
         print_reply(rt, &reply)?;
-        if let Ok(Answered::Taken(snapshot)) = reply {
-            self.note(bench, snapshot)?;
-        }
+        self.note_taken(bench, reply)?;
         Ok(())
     }
 
