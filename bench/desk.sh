@@ -33,7 +33,8 @@ def more(lines, further, expected):
     return whole - without
 
 def repeated(count):
-    submits = [f"submit ann {number} 0 whole" for number in range(1, count + 1)]
+    # (all numbers have six digits, so that no line is longer behind many)
+    submits = [f"submit ann {100_000 + number} 0 whole" for number in range(1, count + 1)]
     numbers = [1 + turn * 7919 % count for turn in range(repeats)]
     return more(["chairs ann"] + submits, [submits[number - 1] for number in numbers], [f"submitted job {number}" for number in numbers])
 
