@@ -1,7 +1,8 @@
 #!/bin/bash
 # What peeling takes where caps differ, so that a lottery has thousands of pieces: `matcher solve whole` less `matcher rules` and less
 # the writing of the text, in processor time, beside LEMON's solve alone of the network of the same rules, in one run; medians
-# of three. So the solve and the prices are counted with the peeling; a second line takes the solve alone off too. It wants g++ and Debian's liblemon-dev.
+# of three. So the solve and the prices are counted with the peeling; a second line has the peeling alone, as `benches peel` times it on
+# the same rules. It wants g++ and Debian's liblemon-dev.
 # usage: bench/peel.sh PATH-OF-MATCHER PATH-OF-BENCHES
 set -eu
 matcher=$(realpath "$1")
@@ -64,7 +65,8 @@ def peeling(name, kind):
     whole, done = used([matcher, "solve", "whole"], where)
     writes = [float(subprocess.run([benches, "write"], input=done.stdout, capture_output=True).stderr) / 1e6 for _ in range(3)]
     network = subprocess.run([sys.executable, f"{here}/network_of_rules.py"], input=text.stdout, capture_output=True).stdout
-    alone = statistics.median(float(subprocess.run([benches, "time"], input=network, capture_output=True).stderr.split()[-1]) / 1e6 for _ in range(3))
+    peeled = [subprocess.run([benches, "peel"], input=text.stdout, capture_output=True) for _ in range(3)]
+    alone = statistics.median(float(run.stderr) / 1e6 for run in peeled)
     solves = [float(subprocess.run([f"{folder}/lemon", kind], input=network, capture_output=True).stderr) for _ in range(3)]
     lemon, writing = statistics.median(solves), statistics.median(writes)
     taken = whole - rules - writing
@@ -72,15 +74,14 @@ def peeling(name, kind):
     pairs = text.stdout.count(b"\n")
     print(f"{name}: {said}; {len(done.stdout)} bytes")
     print(f"{name}: whole {whole:.3f} s, rules {rules:.3f} s, text {writing:.3f} s; LEMON's {kind} {lemon:.3f} s, ratio {taken / lemon:.2f}")
-    print(f"{name}: the solve alone {alone:.3f} s, so the peeling with the prices {taken - alone:.3f} s, ratio {(taken - alone) / lemon:.2f}")
-    return taken, int(said.split()[-1])
+    print(f"{name}: the peeling alone {alone:.3f} s, {peeled[0].stdout.decode().strip()}, ratio {alone / lemon:.2f}")
+    return alone, int(said.split()[-1])
 
 for name in ["size-4", "size-25"]:
     uneven(name)
 small, few = peeling("size-4", "simplex")
 large, many = peeling("size-25", "simplex")
-if small > 0 and large > 0:
-    print(f"growth from size 4 to 25: exponent {math.log(large / small) / math.log(6.25):.2f}, of the lottery's places {math.log(many * 6.25 / few) / math.log(6.25):.2f}")
+print(f"growth from size 4 to 25: exponent {math.log(large / small) / math.log(6.25):.2f}, of the lottery's places {math.log(many * 6.25 / few) / math.log(6.25):.2f}")
 dense("dense", 500, 500)
 peeling("dense", "scaling")
 print(f"peak memory {resource.getrusage(resource.RUSAGE_CHILDREN).ru_maxrss} KiB")

@@ -9,6 +9,8 @@
 //!   the writing go to standard error.
 //! - `level` reads rules on standard input and prints their level in the fair mode, for `bench/job.sh`; the microseconds of the
 //!   search go to standard error.
+//! - `peel` reads rules on standard input, solves them and prints the number of pieces that their shares are peeled to, for
+//!   `bench/peel.sh`; the microseconds of the peeling alone go to standard error.
 //!
 //! The stored run has the word `solve`. Its costs are those that `bench/plain_cost.py` finds; the last network
 //! there is contended enough for the coarse phase.
@@ -22,7 +24,7 @@ mod solve;
 use answer::write_again;
 use anyhow::bail;
 use import::import_values;
-use rules::{compile_network, find_level};
+use rules::{compile_network, find_level, peel_shares};
 use solve::solve_all;
 use std::env;
 
@@ -34,6 +36,7 @@ fn measure(rt: &HostRuntime, word: &str) -> anyhow::Result<()> {
         "time" => solve_all(rt, true),
         "write" => write_again(rt),
         "level" => find_level(rt),
+        "peel" => peel_shares(rt),
         _ => bail!("{word} is no word of a benchmark"),
     }
 }
