@@ -1,11 +1,14 @@
 -- The command that words ask for.
-use Rattle.std.specs.Prelude.{ℕ, List, [], ◌∷◌, Option, None, Some, if◌then◌else◌, codes}
+use Rattle.std.specs.Prelude.{ℕ, ◌≤◌, List, [], ◌∷◌, Option, None, Some, Result, Ok, Err, if◌then◌else◌, codes}
 use Rattle.std.specs.Option.{option_map}
 use Rattle.std.specs.Str.{bytes_eq}
 use Rattle.match_rules.specs.declared.answer.Mode.{Mode}
 use Rattle.match_rules.specs.declared.answer.Mode.TheVariants.{Whole, Fair}
+use Rattle.text_lines.specs.declared.fault.LineCode.{LineCode}
+use Rattle.text_lines.specs.Forms.{number_from}
+use Rattle.command_words.specs.declared.words.TheConstants.{MOST_SEED, MOST_SIZE}
 use Rattle.command_words.specs.declared.words.Command.{Command}
-use Rattle.command_words.specs.declared.words.Command.TheVariants.{Check, Rules, Solve}
+use Rattle.command_words.specs.declared.words.Command.TheVariants.{Check, Rules, Solve, Make}
 
 -- the command that one word asks for
 abbrev pub command_of_word : List ℕ → Option Command
@@ -21,9 +24,28 @@ mode_of_word word =
 abbrev pub command_of_two : List ℕ → List ℕ → Option Command
 command_of_two word other = if bytes_eq word (codes "solve") then option_map Solve (mode_of_word other) else None
 
+-- the making of a seed and a size, where both are read
+abbrev pub make_of : Result ℕ LineCode → Result ℕ LineCode → Option Command
+make_of (Ok seed) (Ok size) = Some (Make seed size)
+make_of (Ok seed) (Err code) = None
+make_of (Err code) size = None
+
+-- the command that three words ask for: both numbers are spelled with no sign and no zero in front
+abbrev pub command_of_three : List ℕ → List ℕ → List ℕ → Option Command
+command_of_three word seed size =
+    if bytes_eq word (codes "make") then make_of (number_from 0 MOST_SEED seed) (number_from 1 MOST_SIZE size) else None
+
 -- the command that the words behind the program's name ask for
 abbrev pub command_of : List (List ℕ) → Option Command
 command_of [] = None
 command_of (word ∷ []) = command_of_word word
 command_of (word ∷ other ∷ []) = command_of_two word other
-command_of (word ∷ other ∷ third ∷ more) = None
+command_of (word ∷ other ∷ third ∷ []) = command_of_three word other third
+command_of (word ∷ other ∷ third ∷ fourth ∷ more) = None
+
+-- the numbers of a making are within their limits
+abbrev pub IsWithinLimits : Command → Type 0
+IsWithinLimits Check = Unit {0}
+IsWithinLimits Rules = Unit {0}
+IsWithinLimits (Solve mode) = Unit {0}
+IsWithinLimits (Make seed size) = (seed ≤ MOST_SEED) × (1 ≤ size) × (size ≤ MOST_SIZE)

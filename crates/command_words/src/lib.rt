@@ -1,9 +1,11 @@
 // The words that the program `matcher` takes, read with `clap`.
 #![tactic(auto)]
 
+mod examples;
 mod found;
 mod usage_text;
 mod words;
 
+pub use examples::worked_makings;
 pub use usage_text::usage;
-pub use words::{Command, WordsFault, read_words};
+pub use words::{Command, MOST_SEED, MOST_SIZE, WordsFault, read_words};

@@ -2,13 +2,20 @@
 ghost use Rattle.std.specs.Prelude.{◌≡◌, map, None, Some, [], Err, IfOk, unwrap_or, codes};
 ghost use Rattle.std.specs.String.{string_bytes};
 ghost use Rattle.clap.specs.Words.{all_of, rows_of, found_of};
-ghost use Rattle.command_words.specs.Commands.{command_of, command_of_two, command_of_word, mode_of_word};
+ghost use Rattle.command_words.specs.Commands.{command_of, command_of_two, command_of_three, command_of_word, make_of, mode_of_word, IsWithinLimits};
 ghost use Rattle.command_words.specs.Hyphens.{is_plain, are_plain};
 
 use crate::found::find_words;
 use clap::ArgMatches;
 use match_rules::Mode;
 use std::alloc::Global;
+use text_lines::{LineCode, number_from};
+
+/// The greatest seed of a made conference.
+pub const MOST_SEED: u32 = 4_294_967_295;
+
+/// The greatest size of a made conference.
+pub const MOST_SIZE: u32 = 25;
 
 /// What a list of words asks for.
 #[derive(Clone, Copy)]
@@ -19,6 +26,13 @@ pub enum Command {
     Rules,
     /// These rules and a best lottery in a mode, or a cut that shows that none fits.
     Solve(Mode),
+    /// A made conference, and the total of a best lottery of it.
+    Make {
+        /// What its numbers are drawn from.
+        seed: u32,
+        /// How many blocks it has, from 1 to 25.
+        size: u32,
+    },
 }
 
 /// Why words were not read.
@@ -80,12 +94,35 @@ fn command_of_two(word: &str, other: &str) -> Option<Command>
     }
 }
 
+// The making of a seed and a size.
+fn make_of(seed: Result<u32, LineCode>, size: Result<u32, LineCode>) -> Option<Command>
+    ensures { result ≡ make_of seed size }
+{
+    Some(Command::Make {
+        seed: seed.ok()?,
+        size: size.ok()?,
+    })
+}
+
+fn command_of_three(word: &str, seed: &str, size: &str) -> Option<Command>
+    ensures { result ≡ command_of_three word.now seed.now size.now }
+{
+    match word {
+        "make" => make_of(
+            number_from(seed, 0, MOST_SEED),
+            number_from(size, 1, MOST_SIZE),
+        ),
+        _ => None,
+    }
+}
+
 fn command_of(words: &[&str]) -> Option<Command>
     ensures { result ≡ command_of (map (λ word. word.now) words.now) }
 {
     match words {
         [word] => command_of_word(word),
         [word, other] => command_of_two(word, other),
+        [word, seed, size] => command_of_three(word, seed, size),
         _ => None,
     }
 }
@@ -102,6 +139,7 @@ fn command_found(matches: &ArgMatches<'_>) -> Option<Command>
 /// The command that the words behind the program's name ask for. No word may be shortened, and there are no options.
 pub fn read_words(alloc: Global, words: &[String]) -> Result<Command, WordsFault>
     ensures taken { IfOk result (λ command. command_of (map string_bytes words.now) ≡ Some command) }
+    ensures within { IfOk result IsWithinLimits }
     ensures refused { result ≡ Err WordsFault.Usage → command_of (map string_bytes words.now) ≡ None }
 {
     if !are_plain(words) {

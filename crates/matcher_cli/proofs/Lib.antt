@@ -1,4 +1,6 @@
+pub mod DemandLaws
 pub mod IdLengths
+pub mod MakingLaws
 pub mod ServingLaws
 pub mod SolvingLaws
 pub mod VerdictLaws

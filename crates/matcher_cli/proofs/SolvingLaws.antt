@@ -3,6 +3,7 @@ use Rattle.std.proofs.Common.{◌≡◌, ℕ, List, Option, Result, Ok, Err, inl
 use Rattle.edge_io.specs.FileValues.{FileValue}
 use Rattle.match_rules.specs.declared.answer.Answer.{Answer}
 use Rattle.match_rules.specs.declared.answer.Answer.TheVariants.{Lottery, Infeasible}
+use Rattle.match_rules.specs.declared.answer.Blocked.{Blocked}
 use Rattle.match_rules.specs.declared.answer.Mode.{Mode}
 use Rattle.match_rules.specs.declared.answer.Mode.TheVariants.{Whole}
 use Rattle.match_rules.specs.declared.answer.Winning.{Winning}
@@ -18,7 +19,7 @@ use Rattle.solve_line.proofs.VerdictLaws.{verdict-best, verdict-infeasible, verd
 use Rattle.matcher_cli.specs.declared.status.Status.{Status}
 use Rattle.matcher_cli.specs.declared.status.Status.TheVariants as status
 use Rattle.matcher_cli.specs.FolderRules.{Answered, IsFaultTold, rules_in}
-use Rattle.matcher_cli.specs.Solving.{IsSolved, IsSolvedExactly, Solves, SolvesRules, status_of}
+use Rattle.matcher_cli.specs.Solving.{IsNoSolution, IsSolution, IsSolved, IsSolvedExactly, Solves, SolvesRules, status_of}
 use Rattle.matcher_cli.specs.Verdicts.{IsFault, Written}
 use Rattle.matcher_cli.proofs.ServingLaws.{refused_rules}
 
@@ -41,21 +42,23 @@ verdict_certificate rules mode (Infeasible blocked) are v spelled = record {
 whole_best : (rules : RulesValue) (mode : Mode) (winning : Winning) → AreRules rules → IsVerdict rules mode (Lottery winning) → mode ≡ Whole → Best rules EveryPair winning.lottery
 whole_best rules mode winning are v whole = verdict-whole-best rules (Lottery winning) are (subst (λ (m : Mode). IsVerdict rules m (Lottery winning)) whole v)
 
+-- a lottery of a verdict, and a cut of one
+pub verdict_solution : (rules : RulesValue) (mode : Mode) (winning : Winning) → AreRules rules → IsVerdict rules mode (Lottery winning) → IsSpelled (Lottery winning) → IsSolution rules mode winning
+verdict_solution rules mode winning are v spelled = record {
+  won = v;
+  best = verdict-best rules mode (Lottery winning) are v;
+  best_of_all = whole_best rules mode winning are v;
+  readable = verdict_certificate rules mode (Lottery winning) are v spelled;
+}
+
+pub verdict_no_solution : (rules : RulesValue) (mode : Mode) (blocked : Blocked) → AreRules rules → IsVerdict rules mode (Infeasible blocked) → IsSpelled (Infeasible blocked) → IsNoSolution rules mode blocked
+verdict_no_solution rules mode blocked are v spelled = record { forbidden = v; readable = verdict_certificate rules mode (Infeasible blocked) are v spelled }
+
 -- a verdict whose text was written
 pub verdict_solves : (rules : RulesValue) (mode : Mode) (answer : Answer) (old : List ℕ) (new : Option (List ℕ)) → AreRules rules → IsVerdict rules mode answer → IsSpelled answer
     → Written old new (certificate_text rules answer) → SolvesRules (status_of answer) rules mode old new
-verdict_solves rules mode (Lottery winning) old new are v spelled written = (
-  winning,
-  record {
-    won = v;
-    best = verdict-best rules mode (Lottery winning) are v;
-    best_of_all = whole_best rules mode winning are v;
-    readable = verdict_certificate rules mode (Lottery winning) are v spelled;
-  },
-  written,
-)
-verdict_solves rules mode (Infeasible blocked) old new are v spelled written =
-    (blocked, record { forbidden = v; readable = verdict_certificate rules mode (Infeasible blocked) are v spelled }, written)
+verdict_solves rules mode (Lottery winning) old new are v spelled written = (winning, verdict_solution rules mode winning are v spelled, written)
+verdict_solves rules mode (Infeasible blocked) old new are v spelled written = (blocked, verdict_no_solution rules mode blocked are v spelled, written)
 
 -- a lottery comes exactly where some lottery fits
 pub verdict_exact : (rules : RulesValue) (mode : Mode) (answer : Answer) → AreRules rules → IsVerdict rules mode answer → IsSolved rules (status_of answer)

@@ -24,8 +24,8 @@ fn is_amount(number: u64)
     let _number = number;
 }
 
-// A law: what the types of an answer keep by themselves.
-fn is_spelled(answer: &Answer)
+/// A law: what the types of an answer keep by themselves.
+pub(crate) fn is_spelled(answer: &Answer)
     ensures { IsSpelled answer.now }
 {
     match answer {
@@ -49,8 +49,8 @@ fn write_both<K: Sink>(rules: &Rules, answer: &Answer, sink: &mut K) -> Result<(
     write_answer(rules, answer, sink)
 }
 
-// The status of an answer that was written.
-fn status_of(answer: &Answer) -> Status
+/// The status of an answer that was written.
+pub(crate) fn status_of(answer: &Answer) -> Status
     ensures { result ≡ status_of answer.now }
 {
     match answer {

@@ -1,5 +1,5 @@
 use Rattle.matcher_cli.proofs.VerdictLaws.{judges_checks, judges_exact, parts_same}
-use Rattle.matcher_cli.proofs.matching.check_text.Goals as goal
+use Rattle.matcher_cli.proofs.checking.check_text.Goals as goal
 
 pub returns-in-Ok-clause-checks : goal.returns-in-Ok-clause-checks
 returns-in-Ok-clause-checks g c = λ tells.

@@ -1,0 +1,62 @@
+-- The numbers of a making are within their limits.
+use Rattle.std.proofs.Common.{◌≡◌, ℕ, ◌≤◌, Bool, true, false, List, [], ◌∷◌, Option, None, Some, Result, Ok, Err, refl, length, map, subst, arith}
+use Rattle.std.specs.Prelude.{IfSome, codes, if◌then◌else◌}
+use Rattle.std.specs.Borrow.{Bor}
+use Rattle.std.specs.Option.{option_map}
+use Rattle.std.specs.Str.{bytes_eq}
+use Rattle.match_rules.specs.declared.answer.Mode.{Mode}
+use Rattle.text_lines.specs.declared.fault.LineCode.{LineCode}
+use Rattle.text_lines.specs.Forms.{number_from}
+use Rattle.text_lines.proofs.FormLaws.{number_from_takes}
+use Rattle.command_words.specs.Commands.{IsWithinLimits, command_of, command_of_three, command_of_two, command_of_word, make_of, mode_of_word}
+use Rattle.command_words.specs.declared.words.TheConstants.{MOST_SEED, MOST_SIZE}
+use Rattle.command_words.specs.declared.words.Command.{Command}
+use Rattle.command_words.specs.declared.words.Command.TheVariants.{Check, Rules, Solve, Make}
+
+-- the command is within its limits, where there is one
+abbrev Fits : Option Command → Type 0
+Fits command = IfSome command IsWithinLimits
+
+either : (test : Bool) (x y : Option Command) → Fits x → Fits y → Fits (if test then x else y)
+either true x y fits others = fits
+either false x y fits others = others
+
+solve_fits : (mode : Option Mode) → Fits (option_map Solve mode)
+solve_fits None = tt
+solve_fits (Some mode) = tt
+
+make_fits : (seed size : Result ℕ LineCode) → ((n : ℕ) → seed ≡ Ok n → n ≤ MOST_SEED) → ((n : ℕ) → size ≡ Ok n → (1 ≤ n) × (n ≤ MOST_SIZE)) → Fits (make_of seed size)
+make_fits (Ok seed) (Ok size) low high = (low seed refl, (high size refl).0, (high size refl).1)
+make_fits (Ok seed) (Err code) low high = tt
+make_fits (Err code) size low high = tt
+
+word_fits : (word : List ℕ) → Fits (command_of_word word)
+word_fits word =
+    either (bytes_eq word (codes "check")) (Some Check) (if bytes_eq word (codes "rules") then Some Rules else None) tt
+    (either (bytes_eq word (codes "rules")) (Some Rules) None tt tt)
+
+three_fit : (word seed size : List ℕ) → Fits (command_of_three word seed size)
+three_fit word seed size =
+    either (bytes_eq word (codes "make")) (make_of (number_from 0 MOST_SEED seed) (number_from 1 MOST_SIZE size)) None
+    (make_fits (number_from 0 MOST_SEED seed) (number_from 1 MOST_SIZE size)
+    (λ n e. (number_from_takes 0 MOST_SEED seed n (omega arith) e).2)
+    (λ n e. let size_takes = number_from_takes 1 MOST_SIZE size n (omega arith) e in (size_takes.1, size_takes.2))) tt
+
+all_fit : (words : List (List ℕ)) → Fits (command_of words)
+all_fit [] = tt
+all_fit (word ∷ []) = word_fits word
+all_fit (word ∷ other ∷ []) = either (bytes_eq word (codes "solve")) (option_map Solve (mode_of_word other)) None (solve_fits (mode_of_word other)) tt
+all_fit (word ∷ other ∷ third ∷ []) = three_fit word other third
+all_fit (word ∷ other ∷ third ∷ fourth ∷ more) = tt
+
+-- whatever words ask for is within its limits
+pub command_fits : (words : List (List ℕ)) (command : Command) → command_of words ≡ Some command → IsWithinLimits command
+command_fits words command is = subst Fits is (all_fit words)
+
+-- four words and more ask for nothing
+pub many_ask_nothing : (words : List (Bor (List ℕ))) → 4 ≤ length words → command_of (map (λ word. word.now) words) ≡ None
+many_ask_nothing [] many = absurd (omega (arith, many))
+many_ask_nothing (word ∷ []) many = absurd (omega (arith, many))
+many_ask_nothing (word ∷ other ∷ []) many = absurd (omega (arith, many))
+many_ask_nothing (word ∷ other ∷ third ∷ []) many = absurd (omega (arith, many))
+many_ask_nothing (word ∷ other ∷ third ∷ fourth ∷ more) many = refl
