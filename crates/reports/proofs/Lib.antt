@@ -1,0 +1,5 @@
+mod CountLaws
+mod OrderLaws
+mod ReviewerNames
+mod TableLaws
+mod TextLaws
