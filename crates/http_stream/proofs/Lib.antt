@@ -1,0 +1,10 @@
+pub mod Blanks
+pub mod HeadEnds
+pub mod FrontLaws
+pub mod ShedLaws
+pub mod ShortLaws
+pub mod ReadingLaws
+pub mod BodyLaws
+pub mod StreamLaws
+pub mod TakingLaws
+pub mod TurnLaws
