@@ -1,0 +1,5 @@
+pub mod Targets
+pub mod Fields
+pub mod Asking
+pub mod Faults
+pub mod Examples
