@@ -7,7 +7,7 @@ use Rattle.desk_history.specs.declared.refusals.TheConstants.{MOST_COMMANDS, MOS
 use Rattle.desk_history.specs.declared.entries.Entry.{Entry}
 use Rattle.desk_history.specs.declared.tables.Tables.{Tables}
 use Rattle.desk_history.specs.Courses.{AreKept, full, history_of}
-use Rattle.desk_history.specs.Histories.{History, commands}
+use Rattle.desk_history.specs.Histories.{History, commands, held}
 use Rattle.desk_history.specs.Tables.{AreTables}
 use Rattle.desk_reopening.specs.declared.numbers.Numbers.{Numbers}
 use Rattle.desk_reopening.specs.Numbers.{AreNumbersOf, is_used}
@@ -159,3 +159,12 @@ pub empty_kept : (entries : Vec Entry Global) (tables : Tables) → entries.item
 empty_kept entries tables empty size are =
     let none : full tables.benches ≡ 0 = no_bench tables.benches (λ bench lt. are.benches bench (subst (λ n. bench < n) are.bench_count lt)) in
     record { are = subst (λ (items : List Entry). AreTables (reverse items) tables) (sym empty) are; room = omega (arith, none, size) }
+
+-- what is read from rows takes no job
+replay_benches : (bench : ℕ) (rows : List (List ℕ)) (H end : History) → Replay H rows end → held H bench ≡ None → held end bench ≡ None
+replay_benches bench [] H end same none = subst (λ (K : History). held K bench ≡ None) (sym same) none
+replay_benches bench (row ∷ rows) H end (next, step, rest) none =
+    replay_benches bench rows next end rest (subst (λ (K : History). held K bench ≡ None) (sym step.becomes) none)
+
+pub whole_benches : (told : Option (List (List ℕ))) (H : History) → IsWhole told H → (bench : ℕ) → held H bench ≡ None
+whole_benches told H is bench = replay_benches bench is.rows [] H is.opens.one.is refl

@@ -1,6 +1,6 @@
 // A desk opened again from the rows of its keeper.
 
-ghost use Rattle.std.specs.Prelude.{◌≡◌, ◌≤◌, ◌+◌, [], ℕ, List, IfErr, IfOk, IsErrOf, IsSome, OnOk};
+ghost use Rattle.std.specs.Prelude.{◌≡◌, ◌≤◌, ◌+◌, [], ℕ, List, None, IfErr, IfOk, IsErrOf, IsSome, OnOk};
 ghost use Rattle.std.specs.Option.{option_map};
 ghost use Rattle.std.specs.Prelude.{slice_get};
 ghost use Rattle.edge_io.specs.Counts.{Rose};
@@ -8,7 +8,7 @@ ghost use Rattle.desk_keeper.specs.Keepers.{Tells, told_rows};
 ghost use Rattle.desk_history.specs.declared.refusals.TheConstants.{MOST_ROW_BYTES};
 ghost use Rattle.desk_history.specs.Courses.{AreKept, history_of};
 ghost use Rattle.desk_history.specs.Opened.{IsDamaged, IsLegal, Opens};
-ghost use Rattle.desk_history.specs.Histories.{History};
+ghost use Rattle.desk_history.specs.Histories.{History, held};
 ghost use Rattle.desk_history.specs.Rows.{rows};
 ghost use Rattle.desk_reopening.specs.Numbers.{AreNumbersOf};
 ghost use Rattle.desk_reopening.specs.Reading.{IsReadFault, IsFront, IsWhole, LeadsOn, NamesDamage, SameRows};
@@ -119,6 +119,7 @@ pub fn reopen<P: Keeper>(alloc: Global, keeper: &mut P) -> Result<Reopened, Open
     ensures opened { IsSome (P.rows keeper.new) → IfOk result (λ opened. Opens (told_rows (P.rows keeper.new)) (history_of opened.entries)) }
     ensures told { IfOk result (λ opened. Tells (P.rows keeper.new) (rows (history_of opened.entries))) }
     ensures legal { IfOk result (λ opened. (chairs : List (List ℕ)) → IsLegal chairs (history_of opened.entries)) }
+    ensures benches { IfOk result (λ opened. (bench : ℕ) → held (history_of opened.entries) bench ≡ None) }
 
     // Damage names the first row from which no history follows, and an opened desk says that there is no such row.
     ensures damaged { IsSome (P.rows keeper.new) → IfErr result (NamesDamage (told_rows (P.rows keeper.new))) }

@@ -1,12 +1,12 @@
 // The desk.
 
-ghost use Rattle.std.specs.Prelude.{◌≡◌, ◌≤◌, ◌<◌, ◌^◌, [], ℕ, List, IfErr, IfOk, IsErrOf, IsSome, OnOk, length};
+ghost use Rattle.std.specs.Prelude.{◌≡◌, ◌≤◌, ◌<◌, ◌^◌, [], ℕ, List, None, IfErr, IfOk, IsErrOf, IsSome, OnOk, length};
 ghost use Rattle.std.specs.Option.{option_map};
 ghost use Rattle.edge_io.specs.Counts.{Rose};
 ghost use Rattle.desk_keeper.specs.Keepers.{Tells, told_rows};
 ghost use Rattle.desk_history.specs.declared.refusals.TheConstants.{BENCHES, MOST_ROW_BYTES};
 ghost use Rattle.desk_history.specs.Courses.{AreKept, Does, history_of};
-ghost use Rattle.desk_history.specs.Histories.{History, edits, nth_of, outcome, publications};
+ghost use Rattle.desk_history.specs.Histories.{History, edits, held, nth_of, outcome, publications};
 ghost use Rattle.desk_history.specs.Opened.{IsDamaged, IsLegal, Opens};
 ghost use Rattle.desk_history.specs.Rows.{rows};
 ghost use Rattle.desk_history.specs.Steps.{MayAsk, step};
@@ -103,6 +103,7 @@ impl Desk {
         ensures told { IfOk result (λ desk. Tells (P.rows keeper.new) (rows desk.history)) }
         ensures legal { IfOk result (λ desk. IsLegal desk.chairs desk.history) }
         ensures published { IfOk result (λ desk. EachPublished desk.history) }
+        ensures benches { IfOk result (λ desk. (bench : ℕ) → held desk.history bench ≡ None) }
 
         // Damage names the first row from which no history follows, and an opened desk says that there is no such row.
         ensures damaged { IsSome (P.rows keeper.new) → IfErr result (NamesDamage (told_rows (P.rows keeper.new))) }

@@ -1,5 +1,5 @@
 use Rattle.desk_history.specs.Courses.{history_of}
-use Rattle.desk_reopening.proofs.FrontLaws.{empty_kept, whole_bytes, whole_legal, whole_opens, whole_rows}
+use Rattle.desk_reopening.proofs.FrontLaws.{empty_kept, whole_benches, whole_bytes, whole_legal, whole_opens, whole_rows}
 use Rattle.desk_reopening.proofs.reopening.reopen.Goals as goal
 
 pub replay_rows-requires-clause-kept : goal.replay_rows-requires-clause-kept
@@ -16,3 +16,6 @@ returns-in-Ok-replay_rows-clause-legal g c = λ chairs. whole_legal (g.P.Keeper.
 
 pub returns-in-Ok-replay_rows-clause-sound : goal.returns-in-Ok-replay_rows-clause-sound
 returns-in-Ok-replay_rows-clause-sound g c = λ some. (whole_opens (g.P.Keeper.rows c.replay_rows.new.keeper) (history_of c.replay_rows.new.entries) c.in-Ok-replay_rows.ensures.whole some).sound
+
+pub returns-in-Ok-replay_rows-clause-benches : goal.returns-in-Ok-replay_rows-clause-benches
+returns-in-Ok-replay_rows-clause-benches g c = whole_benches (g.P.Keeper.rows c.replay_rows.new.keeper) (history_of c.replay_rows.new.entries) c.in-Ok-replay_rows.ensures.whole
