@@ -1,2 +1,4 @@
 pub mod PartLaws
 pub mod EditLaws
+pub mod PlaceLaws
+pub mod ServedLaws

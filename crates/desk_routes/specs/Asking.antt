@@ -20,7 +20,7 @@ use Rattle.desk_routes.specs.Fields.{chair_of, number_of}
 use Rattle.desk_routes.specs.Targets.{place_of}
 
 infixl 10 ◌>>=◌
-abbrev ◌>>=◌ : {A B : Type 0} → Result A RouteFault → (A → Result B RouteFault) → Result B RouteFault
+abbrev pub ◌>>=◌ : {A B : Type 0} → Result A RouteFault → (A → Result B RouteFault) → Result B RouteFault
 (Err fault) >>= f = Err fault
 (Ok x) >>= f = f x
 

@@ -3,3 +3,4 @@ pub mod Fields
 pub mod Asking
 pub mod Faults
 pub mod Examples
+pub mod Served
