@@ -1,0 +1,38 @@
+// A desk as a host.
+
+use crate::benches::ask;
+use crate::host::Host;
+use desk_history::Snapshot;
+use desk_keeper::Keeper;
+use desk_routes::Asked;
+use http_messages::Reply;
+use http_stream::HandleFault;
+use job_desk::Desk;
+use std::alloc::Global;
+
+// A desk with its keeper, and what its bench was given.
+#[derive(Drop)]
+pub(crate) struct DeskHost<'a, P: Keeper> {
+    pub(crate) desk: &'a mut Desk,
+    pub(crate) keeper: &'a mut P,
+    pub(crate) given: Option<Snapshot>,
+}
+
+impl<'a, P: Keeper> Host for DeskHost<'a, P> {
+    ghost use Rattle.std.specs.Prelude.{◌≡◌};
+    ghost use Rattle.desk_keeper.specs.Keepers.{Tells};
+    ghost use Rattle.desk_history.specs.Rows.{rows};
+    ghost use Rattle.desk_routes.specs.declared.places.Routes.TheVariants.{ChairsAndWorker};
+    ghost use Rattle.http_desk.specs.Given.{IsGiven};
+    ghost use Rattle.http_desk.specs.Sessions.{Serves, SessionValue};
+
+    ghost does = { λ old asked answer new. Serves (record { desk = old.desk.now; faults = P.faults old.keeper.now }) asked answer (record { desk = new.desk.now; faults = P.faults new.keeper.now }) × (new.desk.ghost_name ≡ old.desk.ghost_name) × (new.keeper.ghost_name ≡ old.keeper.ghost_name) };
+
+    ghost ready = { λ h. Tells (P.rows h.keeper.now) (rows h.desk.now.history) × IsGiven h.desk.now.history h.given };
+
+    ghost routes = { λ _. ChairsAndWorker };
+
+    fn ask(&mut self, alloc: Global, asked: Asked) -> Result<Reply, HandleFault> {
+        ask(alloc, self.desk, self.keeper, &mut self.given, asked)
+    }
+}
