@@ -1,0 +1,7 @@
+pub mod TrailLaws
+pub mod GivenLaws
+pub mod ShownLaws
+pub mod SessionLaws
+pub mod KeptLaws
+pub mod FaultLaws
+pub mod AcknowledgedLaws

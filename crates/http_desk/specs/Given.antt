@@ -1,5 +1,5 @@
 -- What the bench of a session was given.
-use Rattle.std.specs.Prelude.{◌≡◌, Option, None, Some, Result, Ok, Err, ⊤}
+use Rattle.std.specs.Prelude.{◌≡◌, ℕ, Option, None, Some, Result, Ok, Err, ⊤}
 use Rattle.desk_history.specs.declared.refusals.Refusal.{Refusal}
 use Rattle.desk_history.specs.declared.replies.Answered.{Answered}
 use Rattle.desk_history.specs.declared.replies.Answered.TheVariants.{Taken}
@@ -24,3 +24,8 @@ given_after before other = before
 abbrev pub IsMadeOf : Snapshot → Work → Type 0
 IsMadeOf given (work.Answered certificate) = (certificate.rules ≡ given.rules) × IsRight given.rules given.mode certificate.answer
 IsMadeOf given work.OutOfMemory = ⊤
+
+-- the job and what was made of it; without one it is job 0, for which memory was wanting
+abbrev pub IsHandedIn : Option Snapshot → ℕ → Work → Type 0
+IsHandedIn None job done = (job ≡ 0) × (done ≡ work.OutOfMemory)
+IsHandedIn (Some given) job done = (job ≡ given.job) × IsMadeOf given done

@@ -1,3 +1,4 @@
 pub mod Hosts
 pub mod Sessions
 pub mod Given
+pub mod Laws

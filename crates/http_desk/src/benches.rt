@@ -17,9 +17,10 @@ ghost use Rattle.http_desk.specs.Hosts.{Replies};
 ghost use Rattle.http_desk.specs.Sessions.{Serves, SessionValue};
 
 use crate::looks::look_of;
-use crate::worker::solved;
-use desk_history::{Answered, Refusal, Request, Snapshot, Work};
+use crate::worker::handed_in;
+use desk_history::{Answered, Refusal, Request, Snapshot};
 use desk_keeper::Keeper;
+use desk_laws::evidence_laws;
 use desk_replies::reply_of;
 use desk_routes::Asked;
 use http_messages::Reply;
@@ -42,6 +43,7 @@ fn answer<P: Keeper>(desk: &mut Desk, keeper: &mut P, request: Request) -> Resul
     ensures ends { IsEnd request → ¬ (IsErrOf result Refusal.Memory) }
     ensures right { IfOk result ShowsRight }
 {
+    evidence_laws();
     // The history is legal.
     let _entries = desk.entries();
     desk.answer(keeper, request)
@@ -143,10 +145,7 @@ fn finish<P: Keeper>(
     ensures told { Tells (P.rows keeper.new) (rows desk.new.history) }
     ensures given { IsGiven desk.new.history given.new }
 {
-    let (job, work) = match given.take() {
-        Some(snapshot) => (snapshot.job, solved(alloc, snapshot)),
-        None => (0, Work::OutOfMemory),
-    };
+    let (job, work) = handed_in(alloc, given.take());
     let bench = BENCH;
     let (_answer, reply) = reply(alloc, desk, keeper, Request::Finish { bench, job, work });
     reply

@@ -12,13 +12,13 @@ use std::alloc::Global;
 
 // A desk with its keeper, and what its bench was given.
 #[derive(Drop)]
-pub(crate) struct DeskHost<'a, P: Keeper> {
-    pub(crate) desk: &'a mut Desk,
-    pub(crate) keeper: &'a mut P,
+pub(crate) struct DeskHost<'d, 'k, P: Keeper> {
+    pub(crate) desk: &'d mut Desk,
+    pub(crate) keeper: &'k mut P,
     pub(crate) given: Option<Snapshot>,
 }
 
-impl<'a, P: Keeper> Host for DeskHost<'a, P> {
+impl<'d, 'k, P: Keeper> Host for DeskHost<'d, 'k, P> {
     ghost use Rattle.std.specs.Prelude.{◌≡◌};
     ghost use Rattle.desk_keeper.specs.Keepers.{Tells};
     ghost use Rattle.desk_history.specs.Rows.{rows};

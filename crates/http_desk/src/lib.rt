@@ -4,6 +4,7 @@
 mod benches;
 mod desk_host;
 mod host;
+mod laws;
 mod looks;
 mod routed;
 mod serving;
@@ -11,5 +12,6 @@ mod sessions;
 mod worker;
 
 pub use host::Host;
+pub use laws::session_laws;
 pub use serving::serve_stream;
 pub use sessions::session;

@@ -26,6 +26,29 @@ use http_stream::StreamEnd;
 use job_desk::Desk;
 use std::alloc::Global;
 
+// The requests of a source, served over a desk and its keeper.
+fn serve<S: Source, K: Sink, P: Keeper>(
+    alloc: Global,
+    source: &mut S,
+    sink: &mut K,
+    desk: &mut Desk,
+    keeper: &mut P,
+) -> StreamEnd
+    requires told { Tells (P.rows keeper.old) (rows desk.old.history) }
+    requires bench { held desk.old.history 0 ≡ None }
+    ensures stream { (trail : List Exchange) × Trail (Passes Serves ChairsAndWorker) (record { desk = desk.old; faults = P.faults keeper.old }) trail (record { desk = desk.new; faults = P.faults keeper.new }) × (bytes : List ℕ) × (out : List ℕ) × (over : Bool) × Added (S.given source.old) (S.given source.new) bytes × Added (K.taken sink.old) (K.taken sink.new) out × (over ≡ true → told (S.left source.new) ≡ []) × Wrote MOST_STREAM_BYTES over bytes trail result out }
+    ensures told { Tells (P.rows keeper.new) (rows desk.new.history) }
+    ensures read_fault { result ≡ StreamEnd.ReadFault → Rose (S.faults source.old) (S.faults source.new) }
+    ensures write_fault { result ≡ StreamEnd.WriteFault → Rose (K.faults sink.old) (K.faults sink.new) }
+{
+    let mut host = DeskHost {
+        desk,
+        keeper,
+        given: None,
+    };
+    serve_stream(alloc, source, sink, &mut host, Routes::ChairsAndWorker)
+}
+
 /// Serves the requests of a source over a desk and its keeper: those of its chairs, and worker steps, which are those of bench 0. What a
 /// take gave is kept until the finish or the release: a finish solves the rules that were taken, whatever was edited meanwhile. A
 /// finish without a job is refused.
@@ -55,12 +78,7 @@ pub fn session<S: Source, K: Sink, P: Keeper>(
     ensures write_fault { result ≡ StreamEnd.WriteFault → Rose (K.faults sink.old) (K.faults sink.new) }
 {
     evidence_laws();
-    let mut host = DeskHost {
-        desk,
-        keeper,
-        given: None,
-    };
-    let end = serve_stream(alloc, source, sink, &mut host, Routes::ChairsAndWorker);
+    let end = serve(alloc, source, sink, desk, keeper);
     // The history is legal.
     let _entries = desk.entries();
     end

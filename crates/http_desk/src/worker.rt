@@ -1,6 +1,6 @@
 // What a bench makes of its job.
 
-ghost use Rattle.http_desk.specs.Given.{IsMadeOf};
+ghost use Rattle.http_desk.specs.Given.{IsHandedIn, IsMadeOf};
 
 use desk_history::{Snapshot, Work};
 use publication::Certificate;
@@ -8,7 +8,7 @@ use solve_line::solve;
 use std::alloc::Global;
 
 // What the rules that a bench was given come to.
-pub(crate) fn solved(alloc: Global, given: Snapshot) -> Work
+fn solved(alloc: Global, given: Snapshot) -> Work
     ensures { IsMadeOf given result }
 {
     match solve(alloc, given.rules, given.mode) {
@@ -17,5 +17,15 @@ pub(crate) fn solved(alloc: Global, given: Snapshot) -> Work
             Work::Answered(Certificate { rules, answer })
         }
         Err(_) => Work::OutOfMemory,
+    }
+}
+
+// What a bench hands in: for what job, and what was made of it.
+pub(crate) fn handed_in(alloc: Global, given: Option<Snapshot>) -> (u64, Work)
+    ensures { IsHandedIn given result.0 result.1 }
+{
+    match given {
+        Some(snapshot) => (snapshot.job, solved(alloc, snapshot)),
+        None => (0, Work::OutOfMemory),
     }
 }
