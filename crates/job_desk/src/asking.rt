@@ -1,6 +1,6 @@
 // What is asked of the parts of a desk.
 
-ghost use Rattle.std.specs.Prelude.{◌≡◌, ◌≤◌, IsErrOf};
+ghost use Rattle.std.specs.Prelude.{◌≡◌, ◌≤◌, IsErrOf, IsSome};
 ghost use Rattle.edge_io.specs.Counts.{Rose};
 ghost use Rattle.desk_keeper.specs.Keepers.{Tells};
 ghost use Rattle.desk_history.specs.declared.requests.Request.TheVariants.{Do, Look as Looks};
@@ -45,6 +45,7 @@ fn ask_command<P: Keeper>(
     ensures kept { AreKept entries.new tables.new }
     ensures indexed { IsIndexOf (history_of entries.new) (place_at index.new) }
     ensures told { Tells (P.rows keeper.new) (rows (history_of entries.new)) }
+    ensures untold { IsSome (P.rows keeper.new) → IsSome (P.rows keeper.old) }
     ensures later { P.faults keeper.old ≤ P.faults keeper.new }
     ensures fault { IsErrOf result Refusal.KeeperFault → Rose (P.faults keeper.old) (P.faults keeper.new) }
 {
@@ -92,6 +93,7 @@ pub fn ask<P: Keeper>(
     ensures desk { IsDesk chairs.now.items entries.new tables.new }
     ensures indexed { IsIndexOf (history_of entries.new) (place_at index.new) }
     ensures told { Tells (P.rows keeper.new) (rows (history_of entries.new)) }
+    ensures untold { IsSome (P.rows keeper.new) → IsSome (P.rows keeper.old) }
     ensures later { P.faults keeper.old ≤ P.faults keeper.new }
     ensures fault { IsErrOf result Refusal.KeeperFault → Rose (P.faults keeper.old) (P.faults keeper.new) }
     ensures ends { IsEnd request → ¬ (IsErrOf result Refusal.Memory) }

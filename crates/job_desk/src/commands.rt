@@ -1,6 +1,6 @@
 // Commands of chairs: a new one is carried out, and a repeated one has its reply.
 
-ghost use Rattle.std.specs.Prelude.{◌≡◌, ◌≤◌, ℕ, List, IsErrOf, None, true};
+ghost use Rattle.std.specs.Prelude.{◌≡◌, ◌≤◌, ℕ, List, IsErrOf, IsSome, None, true};
 ghost use Rattle.edge_io.specs.Counts.{Rose};
 ghost use Rattle.desk_keeper.specs.Keepers.{Tells};
 ghost use Rattle.desk_keeper.specs.Names.{is_chair_name};
@@ -39,6 +39,7 @@ fn new_command<P: Keeper>(
     ensures step { Does (new_step (history_of entries.old) named) (history_of entries.old) result (history_of entries.new) }
     ensures kept { AreKept entries.new tables.new }
     ensures told { Tells (P.rows keeper.new) (rows (history_of entries.new)) }
+    ensures untold { IsSome (P.rows keeper.new) → IsSome (P.rows keeper.old) }
     ensures later { P.faults keeper.old ≤ P.faults keeper.new }
     ensures fault { IsErrOf result Refusal.KeeperFault → Rose (P.faults keeper.old) (P.faults keeper.new) }
 {
@@ -90,6 +91,7 @@ fn indexed_command<P: Keeper>(
     ensures kept { AreKept entries.new tables.new }
     ensures indexed { IsIndexOf (history_of entries.new) (place_at index.new) }
     ensures told { Tells (P.rows keeper.new) (rows (history_of entries.new)) }
+    ensures untold { IsSome (P.rows keeper.new) → IsSome (P.rows keeper.old) }
     ensures later { P.faults keeper.old ≤ P.faults keeper.new }
     ensures fault { IsErrOf result Refusal.KeeperFault → Rose (P.faults keeper.old) (P.faults keeper.new) }
 {
@@ -137,6 +139,7 @@ pub fn command<P: Keeper>(
     ensures kept { AreKept entries.new tables.new }
     ensures indexed { IsIndexOf (history_of entries.new) (place_at index.new) }
     ensures told { Tells (P.rows keeper.new) (rows (history_of entries.new)) }
+    ensures untold { IsSome (P.rows keeper.new) → IsSome (P.rows keeper.old) }
     ensures later { P.faults keeper.old ≤ P.faults keeper.new }
     ensures fault { IsErrOf result Refusal.KeeperFault → Rose (P.faults keeper.old) (P.faults keeper.new) }
 {

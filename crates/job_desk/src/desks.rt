@@ -138,6 +138,7 @@ impl Desk {
         ensures step { Does (step self.old.chairs self.old.history request) self.old.history result self.new.history }
         ensures chairs { self.new.chairs ≡ self.old.chairs }
         ensures told { Tells (P.rows keeper.new) (rows self.new.history) }
+        ensures untold { IsSome (P.rows keeper.new) → IsSome (P.rows keeper.old) }
         ensures later { P.faults keeper.old ≤ P.faults keeper.new }
         ensures fault { IsErrOf result Refusal.KeeperFault → Rose (P.faults keeper.old) (P.faults keeper.new) }
         ensures ends { IsEnd request → ¬ (IsErrOf result Refusal.Memory) }

@@ -1,6 +1,6 @@
 // Rows of commands, and their keeping.
 
-ghost use Rattle.std.specs.Prelude.{◌≡◌, ◌≤◌, ◌<◌, ◌+◌, ◌∷◌, ℕ, List, IfErr, IfOk, IsErrOf, None, vec_capacity, vec_len};
+ghost use Rattle.std.specs.Prelude.{◌≡◌, ◌≤◌, ◌<◌, ◌+◌, ◌∷◌, ℕ, List, IfErr, IfOk, IsErrOf, IsSome, None, vec_capacity, vec_len};
 ghost use Rattle.edge_io.specs.Counts.{Rose};
 ghost use Rattle.desk_keeper.specs.Keepers.{IsNext, Tells};
 ghost use Rattle.desk_keeper.specs.Rows.{MayKeep, row_of};
@@ -45,6 +45,7 @@ pub fn append<P: Keeper>(
 ) -> Result<(), Refusal>
     requires { IsNext (P.rows keeper.old) place }
     ensures rows { (kept : List (List ℕ)) → Tells (P.rows keeper.old) kept → Tells (P.rows keeper.new) (rows_after result kept row.now) }
+    ensures untold { IsSome (P.rows keeper.new) → IsSome (P.rows keeper.old) }
     ensures cause { IfErr result IsKeeping }
     ensures later { P.faults keeper.old ≤ P.faults keeper.new }
     ensures fault { IsErrOf result Refusal.KeeperFault → Rose (P.faults keeper.old) (P.faults keeper.new) }

@@ -1,6 +1,6 @@
 // Publishes: the lottery of a job becomes a publication.
 
-ghost use Rattle.std.specs.Prelude.{◌≡◌, ◌≤◌, ◌<◌, ◌+◌, ℕ, List, IfOk, IsErrOf, OnOk, true, vec_capacity, vec_len};
+ghost use Rattle.std.specs.Prelude.{◌≡◌, ◌≤◌, ◌<◌, ◌+◌, ℕ, List, IfOk, IsErrOf, IsSome, OnOk, true, vec_capacity, vec_len};
 ghost use Rattle.edge_io.specs.Counts.{Rose};
 ghost use Rattle.desk_keeper.specs.Keepers.{Tells};
 ghost use Rattle.desk_keeper.specs.Names.{is_chair_name};
@@ -72,6 +72,7 @@ pub fn publish<P: Keeper>(
     ensures step { Does (new_step (history_of entries.old) (named caller number (Publish job))) (history_of entries.old) result (history_of entries.new) }
     ensures kept { AreKept entries.new tables.new }
     ensures told { Tells (P.rows keeper.new) (rows (history_of entries.new)) }
+    ensures untold { IsSome (P.rows keeper.new) → IsSome (P.rows keeper.old) }
     ensures later { P.faults keeper.old ≤ P.faults keeper.new }
     ensures fault { IsErrOf result Refusal.KeeperFault → Rose (P.faults keeper.old) (P.faults keeper.new) }
 {
