@@ -1,4 +1,4 @@
-mod CommandLaws
+pub mod CommandLaws
 mod FindLaws
 mod MapLaws
 mod PlaceLaws

@@ -70,7 +70,7 @@ served old its reply new serves status =
 
 passed : (old : SessionValue) (its : Named) (reply : ReplyValue) (new : SessionValue) → PassesOn Serves old (Ok (asked.Do its)) (Ok reply) new → reply.status ≡ 200 → IsAcknowledged new.desk.history its reply
 passed old its reply new (inl serves) status = served old its reply new serves status
-passed old its reply new (inr unasked) status = let wrong : Ok {E = HandleFault} reply ≡ Err faults.Memory = unasked.0 in absurd cc
+passed old its reply new (inr unasked) status = let wrong = unasked.0 in absurd cc
 
 acknowledges : (routes : Routes) (start : SessionValue) (exchange : Exchange) (next : SessionValue) → Passes Serves routes start exchange.request exchange.answer next → Acknowledges next.desk.history routes exchange
 acknowledges routes start exchange next now its reply asks answers status =

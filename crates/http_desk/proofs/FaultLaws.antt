@@ -25,7 +25,7 @@ use Rattle.desk_routes.specs.declared.faults.RouteFault.TheVariants as route
 use Rattle.desk_routes.specs.declared.places.Asked.{Asked}
 use Rattle.desk_routes.specs.declared.places.Routes.{Routes}
 use Rattle.http_desk.specs.Hosts.{Passes, PassesOn}
-use Rattle.http_desk.specs.Laws.{IsDefined, has_status, replies_with}
+use Rattle.http_desk.specs.Laws.{IsDefined, RoseBy, has_status, replies_with}
 use Rattle.http_desk.specs.Sessions.{Serves, SessionValue}
 
 -- ---- 200
@@ -125,12 +125,18 @@ reply_failed : (result : Result Answered Refusal) → ((reply_of result).status 
 reply_failed (Ok reply) is = absurd (false≢true (ap (λ n. n == 503) (sym (answer_status reply)) ∙ is))
 reply_failed (Err why) is = failed why (sym (refusal_503 why) ∙ is)
 
-counted : (test : Bool) (before now : ℕ) → before ≤ now → (test ≡ true → before < now) → before + (if test then 1 else 0) ≤ now
-counted true before now later rose = omega (arith, rose refl)
+counted : (test : Bool) (before now : ℕ) → before ≤ now → (test ≡ true → Rose before now) → RoseBy before (if test then 1 else 0) now
+counted true before now later rose = rose refl
 counted false before now later rose = omega (arith, later)
 
+never_counted : (test : Bool) (before now : ℕ) → test ≡ false → now ≡ before → RoseBy before (if test then 1 else 0) now
+never_counted test before now is same = rw is (omega (arith, same))
+
+then_counted : (before middle now first second : ℕ) → before ≤ middle → RoseBy before first middle → RoseBy middle second now → RoseBy before (first + second) now
+then_counted before middle now first second later one two = omega (arith, later, one, two)
+
 served_counted : (old : SessionValue) (asked : Asked) (reply : Result ReplyValue HandleFault) (new : SessionValue) → Serves old asked reply new
-    → old.faults + (if has_status 503 reply then 1 else 0) ≤ new.faults
+    → RoseBy old.faults (if has_status 503 reply then 1 else 0) new.faults
 served_counted old asked (Ok reply) new serves =
     counted (reply.status == 503) old.faults new.faults serves.later
     (λ is. serves.fault (reply_failed serves.result (ap (λ (r : ReplyValue). r.status == 503) (sym serves.reply) ∙ is)))
@@ -147,36 +153,38 @@ same_faults : (old new : SessionValue) → new ≡ old → new.faults ≡ old.fa
 same_faults old new is = ap (λ (s : SessionValue). s.faults) is
 
 passed_counted : (old : SessionValue) (due : Result Asked RouteFault) (reply : Result ReplyValue HandleFault) (new : SessionValue) → PassesOn Serves old due reply new
-    → old.faults + (if has_status 503 reply then 1 else 0) ≤ new.faults
+    → RoseBy old.faults (if has_status 503 reply then 1 else 0) new.faults
 passed_counted old (Ok asked) reply new (inl serves) = served_counted old asked reply new serves
-passed_counted old (Ok asked) (Ok reply) new (inr unasked) = let wrong : Ok {E = HandleFault} reply ≡ Err faults.Memory = unasked.0 in absurd cc
-passed_counted old (Ok asked) (Err fault) new (inr unasked) = omega (arith, same_faults old new unasked.1)
+passed_counted old (Ok asked) (Ok reply) new (inr unasked) = let wrong = unasked.0 in absurd cc
+passed_counted old (Ok asked) (Err fault) new (inr unasked) = never_counted false old.faults new.faults refl (same_faults old new unasked.1)
 passed_counted old (Err fault) (Ok reply) new refused =
-    counted (reply.status == 503) old.faults new.faults (omega (arith, same_faults old new refused.1))
-    (λ is. absurd (false≢true (sym (route_counted fault) ∙ ap (λ (r : ReplyValue). r.status == 503) (sym refused.0) ∙ is)))
-passed_counted old (Err fault) (Err other) new refused = omega (arith, same_faults old new refused.1)
+    never_counted (reply.status == 503) old.faults new.faults (ap (λ (r : ReplyValue). r.status == 503) refused.0 ∙ route_counted fault) (same_faults old new refused.1)
+passed_counted old (Err fault) (Err other) new refused = never_counted false old.faults new.faults refl (same_faults old new refused.1)
+
+passed_later : (old : SessionValue) (due : Result Asked RouteFault) (reply : Result ReplyValue HandleFault) (new : SessionValue) → PassesOn Serves old due reply new → old.faults ≤ new.faults
+passed_later old (Ok asked) reply new (inl serves) = serves.later
+passed_later old (Ok asked) reply new (inr unasked) = omega (arith, same_faults old new unasked.1)
+passed_later old (Err fault) reply new refused = omega (arith, same_faults old new refused.1)
 
 -- there are no more replies with the status 503 than the keeper has failed
-pub unavailable : (routes : Routes) (start : SessionValue) (trail : List Exchange) (end : SessionValue) → Trail (Passes Serves routes) start trail end → start.faults + replies_with 503 trail ≤ end.faults
+pub unavailable : (routes : Routes) (start : SessionValue) (trail : List Exchange) (end : SessionValue) → Trail (Passes Serves routes) start trail end → RoseBy start.faults (replies_with 503 trail) end.faults
 unavailable routes start [] end is = omega (arith, same_faults start end is)
 unavailable routes start (exchange ∷ more) end (next, now, later) =
-    omega (arith, passed_counted start (asked_of routes exchange.request) exchange.answer next now, unavailable routes next more end later)
+    then_counted start.faults next.faults end.faults (if has_status 503 exchange.answer then 1 else 0) (replies_with 503 more)
+    (passed_later start (asked_of routes exchange.request) exchange.answer next now) (passed_counted start (asked_of routes exchange.request) exchange.answer next now) (unavailable routes next more end later)
 
 -- ---- what is answered where the keeper doesn't fail
 
-explained : (asked : Step) (why : Refusal) → (IsErrOf {T = Answered} (Err why) refusal.KeeperFault → ⊥) → Explains asked why → (Err why ≡ asked.reply) ⊎ (Err {T = Answered} why ≡ Err refusal.Memory)
+explained : (asked : Step) (why : Refusal) → (IsErrOf {T = Answered} (Err why) refusal.KeeperFault → ⊥) → Explains asked why → (let result : Result Answered Refusal = Err why in (result ≡ asked.reply) ⊎ (result ≡ Err refusal.Memory))
 explained asked refusal.Memory sure is = inr refl
 explained asked refusal.KeeperFault sure is = absurd (sure refl)
 explained asked why sure is = inl (sym is)
 
 answered_so : (asked : Step) (H next : History) (result : Result Answered Refusal) → (IsErrOf result refusal.KeeperFault → ⊥) → Does asked H result next
-    → (result ≡ asked.reply) ⊎ (result ≡ Err {T = Answered} refusal.Memory)
+    → (result ≡ asked.reply) ⊎ (result ≡ Err refusal.Memory)
 answered_so asked H next (Ok reply) sure does = inl (sym does.0)
 answered_so asked H next (Err why) sure does = explained asked why sure does.0
 
-not_rose : (before now : ℕ) → now ≡ before → Rose before now → ⊥
-not_rose before now same rose = omega (arith, same, rose)
-
-pub defined : (old : SessionValue) (asked : Asked) (reply : Result ReplyValue HandleFault) (new : SessionValue) (serves : Serves old asked reply new) → new.faults ≡ old.faults → IsDefined serves
-defined old asked reply new serves same =
-    answered_so (step old.desk.chairs old.desk.history serves.request) old.desk.history new.desk.history serves.result (λ is. not_rose old.faults new.faults same (serves.fault is)) serves.does
+pub defined : (old : SessionValue) (asked : Asked) (reply : Result ReplyValue HandleFault) (new : SessionValue) (serves : Serves old asked reply new) → (Rose old.faults new.faults → ⊥) → IsDefined serves
+defined old asked reply new serves still =
+    answered_so (step old.desk.chairs old.desk.history serves.request) old.desk.history new.desk.history serves.result (λ is. still (serves.fault is)) serves.does

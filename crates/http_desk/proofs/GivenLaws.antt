@@ -22,7 +22,6 @@ use Rattle.desk_history.specs.Looks.{Step, look_step, refused, told}
 use Rattle.desk_history.specs.Refusals.{refusal_of}
 use Rattle.desk_history.specs.SameCommands.{is_same_command}
 use Rattle.desk_history.specs.Steps.{AcceptsCommand, Explains, IsRightFor, IsWorkFor, accepted, answered_by, command_step, done_of, finish_job, finish_step, first_waiting, holds, is_chair, made, numbered_step, refused_or, release_at, release_step, snapshot, step, take_at, take_first, take_step, with_entry}
-use Rattle.desk_history.proofs.JobsStay.{none_some, some_equal}
 use Rattle.desk_history.proofs.WorkLaws.{work_right, work_stays, work_taken}
 use Rattle.desk_laws.proofs.EntryLaws.{Brings, either, look_brings}
 use Rattle.desk_routes.specs.declared.places.Asked.TheVariants as asked
@@ -88,7 +87,7 @@ first_given H (Some found) given reply next work is becomes =
 
 at_given : (H : History) (has : Option ℕ) (given : Option Snapshot) (reply : Result Answered Refusal) (next : History) → held H 0 ≡ has → IsGiven H given
     → Does (take_at H 0 has) H reply next → IsGiven next (given_after given reply)
-at_given H (Some job) given (Ok reply) next is gives does = let wrong : Err {T = Answered} (BenchFull job) ≡ Ok reply = does.0 in absurd cc
+at_given H (Some job) given (Ok reply) next is gives does = let wrong = does.0 in absurd cc
 at_given H None given (Ok reply) next is gives does =
     first_given H (first_waiting 1 (jobs H)) given reply next
     (λ taken e. work_taken H 0 taken (subst (λ (o : Option ℕ). (take_at H 0 o).reply ≡ Ok (answered.Taken taken)) (sym is) e)) does.0 does.1
@@ -108,7 +107,7 @@ IsDone asked = (reply : Answered) × (asked.reply ≡ Ok reply) × (AcceptsComma
 never : (asked : Step) (refusal : Refusal) → IsDone asked → (IsErrOf {T = Answered} (Err refusal) Memory → ⊥) → Explains asked refusal → ⊥
 never asked Memory done sure explains = sure refl
 never asked KeeperFault done sure explains = done.2 explains
-never asked refusal done sure explains = let wrong : Ok done.0 ≡ Err {T = Answered} refusal = sym done.1 ∙ explains in absurd cc
+never asked refusal done sure explains = let wrong = sym done.1 ∙ explains in absurd cc
 
 -- a step that empties the bench
 ended_none : (asked : Step) (H : History) (reply : Result Answered Refusal) (next : History) → IsDone asked → held (with_entry asked.entry H) 0 ≡ None
@@ -118,7 +117,7 @@ ended_none asked H (Err refusal) next done none sure does = absurd (never asked 
 
 -- a step that is refused leaves it empty
 refused_none : (refusal : Refusal) (H : History) (reply : Result Answered Refusal) (next : History) → held H 0 ≡ None → Does (refused refusal) H reply next → held next 0 ≡ None
-refused_none refusal H (Ok reply) next none does = let wrong : Err {T = Answered} refusal ≡ Ok reply = does.0 in absurd cc
+refused_none refusal H (Ok reply) next none does = let wrong = does.0 in absurd cc
 refused_none refusal H (Err other) next none does = subst (λ (h : History). held h 0 ≡ None) (sym does.1) none
 
 held_finish : (H : History) (job : ℕ) (done : Work) (found : Job) → held H 0 ≡ Some job → job_of H job ≡ Some found → finish_step H 0 job done ≡ finish_job 0 job done (Some found)

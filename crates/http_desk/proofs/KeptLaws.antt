@@ -32,7 +32,7 @@ use Rattle.desk_history.specs.Rows.{lottery_of, named, row_behind, rows}
 use Rattle.desk_history.specs.SameCommands.{is_same_command}
 use Rattle.desk_history.specs.Steps.{accepted, answered_by, command_step, done_of, finish_job, finish_step, first_waiting, holds, is_chair, made, numbered_step, refused_or, release_at, release_step, repeat_step, step, take_at, take_first, take_step, with_entry}
 use Rattle.command_index.proofs.CommandLaws.{same_command}
-use Rattle.desk_history.proofs.JobsStay.{none_some, some_equal}
+use Rattle.desk_laws.proofs.EvidenceLaws.{none_some}
 use Rattle.desk_laws.proofs.EntryLaws.{Brings, either, look_brings, repeat_brings}
 use Rattle.http_desk.specs.Laws.{GoesOn, HasRow}
 
@@ -78,7 +78,7 @@ edition_stays law H later n (more, is) few = ap (λ (h : History). edition h n) 
 -- ---- accepted commands are kept
 
 is_this : (by caller : List ℕ) (its number : ℕ) → Decides (bytes_eq by caller && its == number) ((by ≡ caller) × (its ≡ number))
-is_this by caller its number = Decides-and (bytes_eq by caller) (its == number) (by ≡ caller) (its ≡ number) (bytes_eq-Decides by caller) (Decides-eqb its number)
+is_this by caller its number = Decides-and (bytes_eq by caller) (its == number) (bytes_eq-Decides by caller) (Decides-eqb its number)
 
 -- a command that an entry accepts wasn't accepted before
 abbrev pub IsNewIn : History → Entry → Type 0
@@ -155,22 +155,22 @@ kept_this H its = let this : (bytes_eq its.caller its.caller && its.number == it
 
 new_answered : (H : History) (its : Named) (due : Option Refusal) (answered : Answered) (next : History)
     → Does (refused_or due (made (answered_by (done_of H its.command)) (accepted H its None))) H (Ok answered) next → IsAnswered next its answered
-new_answered H its (Some why) answered next does = let wrong : Err {T = Answered} why ≡ Ok answered = does.0 in absurd cc
+new_answered H its (Some why) answered next does = let wrong = does.0 in absurd cc
 new_answered H its None answered next does = record {
   earlier = record { place = commands H; command = its.command; reply = done_of H its.command };
   there = subst (λ (h : History). kept h its.caller its.number ≡ Some (record { place = commands H; command = its.command; reply = done_of H its.command })) (sym does.1) (kept_this H its);
   same = refl;
-  body = let is : Ok {E = Refusal} (answered_by (done_of H its.command)) ≡ Ok answered = does.0 in cc;
+  body = let is = does.0 in cc;
 }
 
 repeat_answered : (same : Bool) (H : History) (its : Named) (earlier : Earlier) (answered : Answered) (next : History) → is_same_command earlier.command its.command ≡ same
     → kept H its.caller its.number ≡ Some earlier → Does (cond same (told (answered_by earlier.reply)) (refused (IdReused earlier.place))) H (Ok answered) next → IsAnswered next its answered
-repeat_answered false H its earlier answered next is there does = let wrong : Err {T = Answered} (IdReused earlier.place) ≡ Ok answered = does.0 in absurd cc
+repeat_answered false H its earlier answered next is there does = let wrong = does.0 in absurd cc
 repeat_answered true H its earlier answered next is there does = record {
   earlier = earlier;
   there = subst (λ (h : History). kept h its.caller its.number ≡ Some earlier) (sym does.1) there;
   same = (same_command earlier.command its.command).0 is;
-  body = let is : Ok {E = Refusal} (answered_by earlier.reply) ≡ Ok answered = does.0 in cc;
+  body = let is = does.0 in cc;
 }
 
 numbered_answered : (H : History) (its : Named) (found : Option Earlier) (answered : Answered) (next : History) → kept H its.caller its.number ≡ found
@@ -180,7 +180,7 @@ numbered_answered H its (Some earlier) answered next is does = repeat_answered (
 
 chair_answered : (test : Bool) (H : History) (its : Named) (answered : Answered) (next : History) → Does (cond test (command_step H its) (refused UnknownChair)) H (Ok answered) next → IsAnswered next its answered
 chair_answered true H its answered next does = numbered_answered H its (kept H its.caller its.number) answered next refl does
-chair_answered false H its answered next does = let wrong : Err {T = Answered} UnknownChair ≡ Ok answered = does.0 in absurd cc
+chair_answered false H its answered next does = let wrong = does.0 in absurd cc
 
 pub command_answered : (chairs : List (List ℕ)) (H : History) (its : Named) (answered : Answered) (next : History) → Does (step chairs H (request.Do its)) H (Ok answered) next → IsAnswered next its answered
 command_answered chairs H its answered next does = chair_answered (is_chair chairs its.caller) H its answered next does
@@ -198,6 +198,9 @@ pub repeated : (chairs : List (List ℕ)) (H : History) (its : Named) (earlier :
 repeated chairs H its earlier chair there same = rw chair (repeat_told H its earlier there same)
 
 -- ---- rows
+
+some_equal : {A : Type 0} (a b : A) → Some a ≡ Some b → a ≡ b
+some_equal a b is = cc
 
 get_end : (xs : List (List ℕ)) (x : List ℕ) (n : ℕ) → n ≡ length xs → slice_get (xs ++ x ∷ []) n ≡ Some x
 get_end [] x n is = rw is refl

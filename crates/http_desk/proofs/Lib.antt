@@ -5,3 +5,4 @@ pub mod SessionLaws
 pub mod KeptLaws
 pub mod FaultLaws
 pub mod AcknowledgedLaws
+pub mod RouteLaws

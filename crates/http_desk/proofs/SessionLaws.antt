@@ -24,13 +24,13 @@ chairs_stay routes start trail end is =
 
 not_spent : (old : SessionValue) (due : Result Asked RouteFault) (new : SessionValue) → PassesOn Serves old due (Err faults.Spent) new → ⊥
 not_spent old (Ok asked) new (inl does) = does.reply
-not_spent old (Ok asked) new (inr unasked) = let wrong : Err {T = ReplyValue} faults.Spent ≡ Err faults.Memory = unasked.0 in absurd cc
+not_spent old (Ok asked) new (inr unasked) = let wrong = unasked.0 in absurd cc
 not_spent old (Err fault) new refused = refused.0
 
 replied_on : (closes : Bool) (text : List ℕ) (more : List Exchange) (out : List ℕ) (Later : List ℕ → Type 0) → ((behind : List ℕ) → Later behind → ⊥) → Replied closes text more ends.Spent out Later → ⊥
-replied_on true text more out Later none (inl (behind, is, follows)) = let wrong : ends.Spent ≡ ends.Done = follows.1 in absurd cc
+replied_on true text more out Later none (inl (behind, is, follows)) = let wrong = follows.1 in absurd cc
 replied_on false text more out Later none (inl (behind, is, follows)) = none behind follows
-replied_on closes text more out Later none (inr failed) = let wrong : ends.Spent ≡ ends.WriteFault = failed.1 in absurd cc
+replied_on closes text more out Later none (inr failed) = let wrong = failed.1 in absurd cc
 
 answered_on : (closes : Bool) (answer : Result ReplyValue HandleFault) (more : List Exchange) (out : List ℕ) (Later : List ℕ → Type 0) → (answer ≡ Err faults.Spent → ⊥)
     → ((behind : List ℕ) → Later behind → ⊥) → Answered closes answer more ends.Spent out Later → ⊥

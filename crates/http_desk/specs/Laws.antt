@@ -1,5 +1,5 @@
 -- What a session leaves behind, in the words of those who sent it requests.
-use Rattle.std.specs.Prelude.{◌≡◌, ℕ, ◌+◌, ◌==◌, Bool, false, if◌then◌else◌, List, [], ◌∷◌, ◌++◌, slice_get, Option, Some, Result, Ok, Err, ◌⊎◌}
+use Rattle.std.specs.Prelude.{◌≡◌, ℕ, ◌+◌, ◌-◌, ◌^◌, ◌≤◌, min, ◌==◌, Bool, false, if◌then◌else◌, List, [], ◌∷◌, ◌++◌, slice_get, Option, Some, Result, Ok, Err, ◌⊎◌}
 use Rattle.http_messages.specs.Replies.{ReplyValue}
 use Rattle.http_stream.specs.Exchanges.{Exchange}
 use Rattle.http_stream.specs.declared.handler.HandleFault.{HandleFault}
@@ -48,7 +48,11 @@ abbrev pub replies_with : ℕ → List Exchange → ℕ
 replies_with status [] = 0
 replies_with status (exchange ∷ more) = (if has_status status exchange.answer then 1 else 0) + replies_with status more
 
+-- the count rose so often, or stands where a 64-bit counter stays
+abbrev pub RoseBy : ℕ → ℕ → ℕ → Type 0
+RoseBy before times now = min (before + times) (2 ^ 64 - 1) ≤ now
+
 -- what the desk answered is what its step says, or memory was wanting
 abbrev pub IsDefined : {old : SessionValue} {asked : Asked} {answer : Result ReplyValue HandleFault} {new : SessionValue} → Serves old asked answer new → Type 0
 IsDefined {old = old} serves =
-    (serves.result ≡ (step old.desk.chairs old.desk.history serves.request).reply) ⊎ (serves.result ≡ Err {T = Answered} Memory)
+    (serves.result ≡ (step old.desk.chairs old.desk.history serves.request).reply) ⊎ (serves.result ≡ Err Memory)

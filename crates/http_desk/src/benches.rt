@@ -1,6 +1,6 @@
 // What is asked of a desk with one bench, and the replies.
 
-ghost use Rattle.std.specs.Prelude.{◌≡◌, ◌≤◌, IfOk, IsErrOf};
+ghost use Rattle.std.specs.Prelude.{◌≡◌, ◌≤◌, IfOk, IsErrOf, IsSome, Result};
 ghost use Rattle.edge_io.specs.Counts.{Rose};
 ghost use Rattle.desk_keeper.specs.Keepers.{Tells};
 ghost use Rattle.desk_history.specs.Courses.{Does};
@@ -11,6 +11,8 @@ ghost use Rattle.desk_replies.specs.Replies.{reply_of};
 ghost use Rattle.desk_routes.specs.Served.{IsServed};
 ghost use Rattle.desk_routes.specs.declared.places.Asked.TheVariants as asked;
 ghost use Rattle.desk_routes.specs.declared.places.Routes.TheVariants.{ChairsAndWorker};
+ghost use Rattle.desk_history.specs.declared.refusals.Refusal.{Refusal};
+ghost use Rattle.desk_history.specs.declared.replies.Answered.{Answered};
 ghost use Rattle.job_desk.specs.Desks.{IsEnd};
 ghost use Rattle.http_desk.specs.Given.{IsGiven, given_after};
 ghost use Rattle.http_desk.specs.Hosts.{Replies};
@@ -38,6 +40,7 @@ fn answer<P: Keeper>(desk: &mut Desk, keeper: &mut P, request: Request) -> Resul
     ensures step { Does (step desk.old.chairs desk.old.history request) desk.old.history result desk.new.history }
     ensures chairs { desk.new.chairs ≡ desk.old.chairs }
     ensures told { Tells (P.rows keeper.new) (rows desk.new.history) }
+    ensures untold { IsSome (P.rows keeper.new) → IsSome (P.rows keeper.old) }
     ensures later { P.faults keeper.old ≤ P.faults keeper.new }
     ensures fault { IsErrOf result Refusal.KeeperFault → Rose (P.faults keeper.old) (P.faults keeper.new) }
     ensures ends { IsEnd request → ¬ (IsErrOf result Refusal.Memory) }
@@ -72,6 +75,7 @@ fn reply<P: Keeper>(
     ensures step { Does (step desk.old.chairs desk.old.history request) desk.old.history result.0 desk.new.history }
     ensures chairs { desk.new.chairs ≡ desk.old.chairs }
     ensures told { Tells (P.rows keeper.new) (rows desk.new.history) }
+    ensures untold { IsSome (P.rows keeper.new) → IsSome (P.rows keeper.old) }
     ensures later { P.faults keeper.old ≤ P.faults keeper.new }
     ensures fault { IsErrOf result.0 Refusal.KeeperFault → Rose (P.faults keeper.old) (P.faults keeper.new) }
     ensures ends { IsEnd request → ¬ (IsErrOf result.0 Refusal.Memory) }
@@ -94,6 +98,7 @@ fn ask_for_chair<P: Keeper>(
     ensures step { (answer : Result Answered Refusal) × Does (step desk.old.chairs desk.old.history request) desk.old.history answer desk.new.history × Replies (reply_of answer) result × (IsErrOf answer Refusal.KeeperFault → Rose (P.faults keeper.old) (P.faults keeper.new)) }
     ensures chairs { desk.new.chairs ≡ desk.old.chairs }
     ensures told { Tells (P.rows keeper.new) (rows desk.new.history) }
+    ensures untold { IsSome (P.rows keeper.new) → IsSome (P.rows keeper.old) }
     ensures later { P.faults keeper.old ≤ P.faults keeper.new }
 {
     let (_answer, reply) = reply(alloc, desk, keeper, request);
@@ -124,6 +129,7 @@ fn take<P: Keeper>(
     requires given { IsGiven desk.old.history given.old }
     ensures serves { Serves (record { desk = desk.old; faults = P.faults keeper.old }) asked.Take result (record { desk = desk.new; faults = P.faults keeper.new }) }
     ensures told { Tells (P.rows keeper.new) (rows desk.new.history) }
+    ensures untold { IsSome (P.rows keeper.new) → IsSome (P.rows keeper.old) }
     ensures given { IsGiven desk.new.history given.new }
 {
     let (answer, reply) = reply(alloc, desk, keeper, Request::Take { bench: BENCH });
@@ -143,6 +149,7 @@ fn finish<P: Keeper>(
     requires given { IsGiven desk.old.history given.old }
     ensures serves { Serves (record { desk = desk.old; faults = P.faults keeper.old }) asked.Finish result (record { desk = desk.new; faults = P.faults keeper.new }) }
     ensures told { Tells (P.rows keeper.new) (rows desk.new.history) }
+    ensures untold { IsSome (P.rows keeper.new) → IsSome (P.rows keeper.old) }
     ensures given { IsGiven desk.new.history given.new }
 {
     let (job, work) = handed_in(alloc, given.take());
@@ -162,6 +169,7 @@ fn release<P: Keeper>(
     requires given { IsGiven desk.old.history given.old }
     ensures serves { Serves (record { desk = desk.old; faults = P.faults keeper.old }) asked.Release result (record { desk = desk.new; faults = P.faults keeper.new }) }
     ensures told { Tells (P.rows keeper.new) (rows desk.new.history) }
+    ensures untold { IsSome (P.rows keeper.new) → IsSome (P.rows keeper.old) }
     ensures given { IsGiven desk.new.history given.new }
 {
     *given = None;
@@ -182,6 +190,7 @@ pub(crate) fn ask<P: Keeper>(
     requires served { IsServed ChairsAndWorker asked }
     ensures serves { Serves (record { desk = desk.old; faults = P.faults keeper.old }) asked result (record { desk = desk.new; faults = P.faults keeper.new }) }
     ensures told { Tells (P.rows keeper.new) (rows desk.new.history) }
+    ensures untold { IsSome (P.rows keeper.new) → IsSome (P.rows keeper.old) }
     ensures given { IsGiven desk.new.history given.new }
 {
     match asked {

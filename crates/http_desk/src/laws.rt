@@ -1,6 +1,7 @@
 // Laws of all sessions. The function does nothing: its clauses are the laws.
 
-ghost use Rattle.std.specs.Prelude.{◌≡◌, ◌+◌, ◌≤◌, List, All, Some, true, ℕ, Result};
+ghost use Rattle.std.specs.Prelude.{◌≡◌, ◌≤◌, List, All, Some, true, ℕ, Result};
+ghost use Rattle.edge_io.specs.Counts.{Rose};
 ghost use Rattle.http_messages.specs.Replies.{ReplyValue};
 ghost use Rattle.http_stream.specs.Exchanges.{Exchange, Trail};
 ghost use Rattle.http_stream.specs.declared.handler.HandleFault.{HandleFault};
@@ -12,7 +13,7 @@ ghost use Rattle.desk_history.specs.Steps.{answered_by, is_chair, step};
 ghost use Rattle.desk_routes.specs.declared.places.Asked.{Asked};
 ghost use Rattle.desk_routes.specs.declared.places.Routes.{Routes};
 ghost use Rattle.http_desk.specs.Hosts.{Passes};
-ghost use Rattle.http_desk.specs.Laws.{Acknowledges, GoesOn, HasRow, IsDefined, replies_with};
+ghost use Rattle.http_desk.specs.Laws.{Acknowledges, GoesOn, HasRow, IsDefined, RoseBy, replies_with};
 ghost use Rattle.http_desk.specs.Sessions.{Serves, SessionValue};
 
 use desk_history::history_laws;
@@ -27,8 +28,8 @@ pub fn session_laws()
     ensures acknowledged { (routes : Routes) (start : SessionValue) (trail : List Exchange) (end : SessionValue) → Trail (Passes Serves routes) start trail end → All (Acknowledges end.desk.history routes) trail }
     ensures row { (H : History) (caller : List ℕ) (number : ℕ) (earlier : Earlier) → kept H caller number ≡ Some earlier → HasRow H caller number earlier }
     ensures repeated { (chairs : List (List ℕ)) (H : History) (its : Named) (earlier : Earlier) → is_chair chairs its.caller ≡ true → kept H its.caller its.number ≡ Some earlier → earlier.command ≡ its.command → step chairs H (Do its) ≡ told (answered_by earlier.reply) }
-    ensures unavailable { (routes : Routes) (start : SessionValue) (trail : List Exchange) (end : SessionValue) → Trail (Passes Serves routes) start trail end → start.faults + replies_with 503 trail ≤ end.faults }
-    ensures defined { (old : SessionValue) (asked : Asked) (answer : Result ReplyValue HandleFault) (new : SessionValue) (serves : Serves old asked answer new) → new.faults ≡ old.faults → IsDefined serves }
+    ensures unavailable { (routes : Routes) (start : SessionValue) (trail : List Exchange) (end : SessionValue) → Trail (Passes Serves routes) start trail end → RoseBy start.faults (replies_with 503 trail) end.faults }
+    ensures defined { (old : SessionValue) (asked : Asked) (answer : Result ReplyValue HandleFault) (new : SessionValue) (serves : Serves old asked answer new) → ¬ (Rose old.faults new.faults) → IsDefined serves }
 {
     history_laws();
 }

@@ -1,6 +1,6 @@
 // A session: a stream over a desk.
 
-ghost use Rattle.std.specs.Prelude.{◌≡◌, ◌≢◌, Bool, List, [], None, true, ℕ};
+ghost use Rattle.std.specs.Prelude.{◌≡◌, ◌≢◌, Bool, List, [], IsSome, None, true, ℕ};
 ghost use Rattle.edge_io.specs.Counts.{Rose};
 ghost use Rattle.edge_io.specs.Told.{told};
 ghost use Rattle.desk_keeper.specs.Keepers.{Tells};
@@ -38,15 +38,22 @@ fn serve<S: Source, K: Sink, P: Keeper>(
     requires bench { held desk.old.history 0 ≡ None }
     ensures stream { (trail : List Exchange) × Trail (Passes Serves ChairsAndWorker) (record { desk = desk.old; faults = P.faults keeper.old }) trail (record { desk = desk.new; faults = P.faults keeper.new }) × (bytes : List ℕ) × (out : List ℕ) × (over : Bool) × Added (S.given source.old) (S.given source.new) bytes × Added (K.taken sink.old) (K.taken sink.new) out × (over ≡ true → told (S.left source.new) ≡ []) × Wrote MOST_STREAM_BYTES over bytes trail result out }
     ensures told { Tells (P.rows keeper.new) (rows desk.new.history) }
+    ensures untold { IsSome (P.rows keeper.new) → IsSome (P.rows keeper.old) }
     ensures read_fault { result ≡ StreamEnd.ReadFault → Rose (S.faults source.old) (S.faults source.new) }
     ensures write_fault { result ≡ StreamEnd.WriteFault → Rose (K.faults sink.old) (K.faults sink.new) }
 {
     let mut host = DeskHost {
+        given: None,
         desk,
         keeper,
-        given: None,
     };
-    serve_stream(alloc, source, sink, &mut host, Routes::ChairsAndWorker)
+    let end = serve_stream(alloc, source, sink, &mut host, Routes::ChairsAndWorker);
+    let DeskHost {
+        given: _given,
+        desk: _desk,
+        keeper: _keeper,
+    } = host;
+    end
 }
 
 /// Serves the requests of a source over a desk and its keeper: those of its chairs, and worker steps, which are those of bench 0. What a
@@ -66,6 +73,7 @@ pub fn session<S: Source, K: Sink, P: Keeper>(
     requires bench { held desk.old.history 0 ≡ None }
     ensures stream { (trail : List Exchange) × Trail (Passes Serves ChairsAndWorker) (record { desk = desk.old; faults = P.faults keeper.old }) trail (record { desk = desk.new; faults = P.faults keeper.new }) × (bytes : List ℕ) × (out : List ℕ) × (over : Bool) × Added (S.given source.old) (S.given source.new) bytes × Added (K.taken sink.old) (K.taken sink.new) out × (over ≡ true → told (S.left source.new) ≡ []) × Wrote MOST_STREAM_BYTES over bytes trail result out }
     ensures told { Tells (P.rows keeper.new) (rows desk.new.history) }
+    ensures untold { IsSome (P.rows keeper.new) → IsSome (P.rows keeper.old) }
 
     // The chairs stay, the history is legal, and each publication is of a certified lottery.
     ensures chairs { desk.new.chairs ≡ desk.old.chairs }
