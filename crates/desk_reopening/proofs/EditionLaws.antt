@@ -1,5 +1,5 @@
 -- Each edition of a history makes rules, where each present one does.
-use Rattle.std.proofs.Common.{◌≡◌, ◌∷◌, [], ◌≤◌, ℕ, List, Bool, true, false, arith, cond, refl, rules, subst, sym}
+use Rattle.std.proofs.Common.{◌≡◌, ◌∷◌, [], ◌≤◌, ℕ, List, Bool, true, false, arith, cond, refl, subst, sym}
 use Rattle.std.specs.Prelude.{nat_lt}
 use Rattle.venue_rules.specs.Venues.{VenueValue}
 use Rattle.desk_keeper.specs.declared.words.Command.TheVariants.{Edit, Submit, Publish, Draw}
