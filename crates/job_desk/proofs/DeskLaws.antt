@@ -1,5 +1,5 @@
 -- What a step leaves of a desk: a legal history, and rows that aren't too many bytes.
-use Rattle.std.proofs.Common.{◌≡◌, ◌+◌, ◌≤◌, ◌<◌, ◌∷◌, ◌||◌, [], ℕ, Bool, true, false, cond, List, Option, None, Some, IfSome, Result, Ok, Err, IsErrOf, Vec, vec_len, vec_capacity, get_or, length, reverse, refl, subst, arith, ap, sym, inr, bytes_eq, suc}
+use Rattle.std.proofs.Common.{◌≡◌, ◌+◌, ◌≤◌, ◌<◌, ◌∷◌, ◌||◌, [], ℕ, Bool, true, false, cond, List, Option, None, Some, IfSome, Result, Ok, Err, IsErrOf, Vec, vec_len, get_or, length, reverse, refl, subst, arith, ap, sym, inr, bytes_eq, suc}
 use Rattle.std.proofs.lemmas.Bool.{false≢true}
 use Rattle.std.proofs.lemmas.Slice.Eq.{bytes_eq-Decides}
 use Rattle.std.specs.Prelude.{nat_le, nat_lt}

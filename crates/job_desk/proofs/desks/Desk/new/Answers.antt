@@ -1,4 +1,4 @@
-use Rattle.std.proofs.Common.{◌∙◌, List, ap, reverse, sym, rules}
+use Rattle.std.proofs.Common.{◌∙◌, List, ap, reverse, sym}
 use Rattle.desk_history.specs.declared.entries.Entry.{Entry}
 use Rattle.desk_history.specs.Courses.{history_of}
 use Rattle.command_index.specs.Places.{place_in}
