@@ -3,6 +3,7 @@ pub mod EntryLaws
 pub mod LegalLaws
 mod Keeping
 pub mod PublishedLaws
+pub mod BestLaws
 mod Pairs
 mod SameJobs
 mod MadeLaws

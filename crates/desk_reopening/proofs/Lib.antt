@@ -5,3 +5,4 @@ mod PublishLaws
 mod CommandLaws
 pub mod RowLaws
 mod FrontLaws
+pub mod EditionLaws

@@ -1,3 +1,4 @@
 pub mod Replaying
 pub mod Numbers
 pub mod Reading
+pub mod Editions

@@ -11,5 +11,5 @@ mod reopening;
 mod rows;
 
 pub use faults::OpenFault;
-pub use laws::reopening_laws;
+pub use laws::{edition_laws, reopening_laws};
 pub use reopening::{Reopened, reopen};

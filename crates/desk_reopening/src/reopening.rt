@@ -10,10 +10,12 @@ ghost use Rattle.desk_history.specs.Courses.{AreKept, history_of};
 ghost use Rattle.desk_history.specs.Opened.{IsDamaged, IsLegal, Opens};
 ghost use Rattle.desk_history.specs.Histories.{History, held};
 ghost use Rattle.desk_history.specs.Rows.{rows};
+ghost use Rattle.desk_reopening.specs.Editions.{EditionsMakeRules};
 ghost use Rattle.desk_reopening.specs.Numbers.{AreNumbersOf};
 ghost use Rattle.desk_reopening.specs.Reading.{IsReadFault, IsFront, IsWhole, LeadsOn, NamesDamage, SameRows};
 
 use crate::faults::{OpenFault, ReplayFault};
+use crate::laws::edition_laws;
 use crate::numbers::Numbers;
 use crate::rows::replay_row;
 use desk_history::{Entry, MOST_COMMANDS, Tables};
@@ -63,12 +65,17 @@ fn replay_at(
     requires kept { AreKept entries.old tables.old }
     requires numbers { AreNumbersOf (history_of entries.old) numbers.old }
     requires bytes { tables.old.bytes ≤ MOST_ROW_BYTES }
+    requires editions { EditionsMakeRules (history_of entries.old) }
     ensures replay { LeadsOn (history_of entries.old) row.now place result (history_of entries.new) }
     ensures kept { OnOk result (AreKept entries.new tables.new) }
     ensures numbers { OnOk result (AreNumbersOf (history_of entries.new) numbers.new) }
+    ensures editions { OnOk result (EditionsMakeRules (history_of entries.new)) }
 {
     match replay_row(alloc, entries, tables, numbers, row) {
-        Ok(()) => Ok(()),
+        Ok(()) => {
+            edition_laws(tables);
+            Ok(())
+        }
         Err(ReplayFault::Damaged) => Err(OpenFault::Damaged { row: place }),
         Err(ReplayFault::Memory) => Err(OpenFault::Memory),
     }
@@ -83,9 +90,11 @@ fn replay_rows<P: Keeper>(
 ) -> Result<(), OpenFault>
     requires kept { AreKept entries.old tables.old }
     requires empty { history_of entries.old ≡ [] }
+    requires editions { EditionsMakeRules (history_of entries.old) }
     ensures same { SameRows (P.rows keeper.old) (P.rows keeper.new) }
     ensures whole { OnOk result (IsWhole (P.rows keeper.new) (history_of entries.new)) }
     ensures kept { OnOk result (AreKept entries.new tables.new) }
+    ensures editions { OnOk result (EditionsMakeRules (history_of entries.new)) }
     ensures damaged { IsSome (P.rows keeper.new) → IfErr result (NamesDamage (told_rows (P.rows keeper.new))) }
     ensures later { P.faults keeper.old ≤ P.faults keeper.new }
     ensures fault { IsErrOf result OpenFault.Keeper → Rose (P.faults keeper.old) (P.faults keeper.new) }
@@ -120,6 +129,7 @@ pub fn reopen<P: Keeper>(alloc: Global, keeper: &mut P) -> Result<Reopened, Open
     ensures told { IfOk result (λ opened. Tells (P.rows keeper.new) (rows (history_of opened.entries))) }
     ensures legal { IfOk result (λ opened. (chairs : List (List ℕ)) → IsLegal chairs (history_of opened.entries)) }
     ensures benches { IfOk result (λ opened. (bench : ℕ) → held (history_of opened.entries) bench ≡ None) }
+    ensures editions { IfOk result (λ opened. EditionsMakeRules (history_of opened.entries)) }
 
     // Damage names the first row from which no history follows, and an opened desk says that there is no such row.
     ensures damaged { IsSome (P.rows keeper.new) → IfErr result (NamesDamage (told_rows (P.rows keeper.new))) }
@@ -136,6 +146,7 @@ pub fn reopen<P: Keeper>(alloc: Global, keeper: &mut P) -> Result<Reopened, Open
         Err(_) => return Err(OpenFault::Memory),
     };
     let mut entries = Vec::new(alloc);
+    edition_laws(&tables);
     match replay_rows(alloc, keeper, &mut entries, &mut tables) {
         Ok(()) => Ok(Reopened { entries, tables }),
         Err(fault) => Err(fault),

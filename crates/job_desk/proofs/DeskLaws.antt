@@ -1,5 +1,5 @@
 -- What a step leaves of a desk: a legal history, and rows that aren't too many bytes.
-use Rattle.std.proofs.Common.{◌≡◌, ◌+◌, ◌≤◌, ◌<◌, ◌∷◌, ◌||◌, [], ℕ, Bool, true, false, cond, List, Option, None, Some, IfSome, Result, Ok, Err, IsErrOf, Vec, vec_len, vec_capacity, get_or, length, reverse, refl, subst, arith, ap, sym, inr, bytes_eq, suc}
+use Rattle.std.proofs.Common.{◌≡◌, ◌+◌, ◌≤◌, ◌<◌, ◌∷◌, ◌||◌, [], ℕ, Bool, true, false, cond, List, Option, None, Some, IfSome, Result, Ok, Err, IsErrOf, Vec, vec_len, get_or, length, reverse, refl, subst, arith, ap, sym, inr, bytes_eq, suc}
 use Rattle.std.proofs.lemmas.Bool.{false≢true}
 use Rattle.std.proofs.lemmas.Slice.Eq.{bytes_eq-Decides}
 use Rattle.std.specs.Prelude.{nat_le, nat_lt}
@@ -18,7 +18,7 @@ use Rattle.desk_history.specs.declared.requests.Request.TheVariants.{Do}
 use Rattle.desk_history.specs.declared.requests.Work.{Work}
 use Rattle.desk_history.specs.declared.tables.Tables.{Tables}
 use Rattle.desk_history.specs.Courses.{AreKept, Does, full, history_of}
-use Rattle.desk_history.specs.Histories.{Earlier, History, commands, held, job_of, jobs, kept}
+use Rattle.desk_history.specs.Histories.{Earlier, History, commands, held, job_of, jobs, kept, present}
 use Rattle.desk_history.specs.Looks.{Step, refused, told}
 use Rattle.desk_history.specs.Opened.{IsLegal}
 use Rattle.desk_history.specs.Refusals.{full_refusal, own_refusal, refusal_of, refuse_if}
@@ -26,6 +26,8 @@ use Rattle.desk_history.specs.Rows.{bytes, row_behind, rows}
 use Rattle.desk_history.specs.SameCommands.{is_same_command}
 use Rattle.desk_history.specs.Steps.{AcceptsCommand, Explains, IsTyped, MayAsk, accepted, answered_by, command_step, done_of, finish_job, finish_step, first_waiting, holds, is_chair, made, numbered_step, refused_or, release_at, release_step, step, take_at, take_first, take_step, with_entry}
 use Rattle.desk_history.specs.Tables.{AreTables}
+use Rattle.desk_reopening.specs.Editions.{EditionsMakeRules, MakesRules}
+use Rattle.desk_reopening.proofs.EditionLaws.{entry_makes}
 use Rattle.desk_laws.specs.Reopened.{AreNames}
 use Rattle.job_desk.specs.Desks.{IsDesk}
 use Rattle.job_desk.specs.Looking.{IsTold}
@@ -204,3 +206,14 @@ new_desk chairs entries tables names none size are =
       kept = record { are = subst (λ (items : List Entry). AreTables (reverse items) tables) (sym none) are; room = omega (arith, free, size) };
       bytes = subst (λ n. n ≤ MOST_ROW_BYTES) (sym are.bytes) (omega arith);
     }
+
+-- The rules of editions
+
+some_makes : (entry : Option Entry) (H : History) → EditionsMakeRules H → MakesRules (present (with_entry entry H)) → EditionsMakeRules (with_entry entry H)
+some_makes None H all now = all
+some_makes (Some entry) H all now = entry_makes entry H all now
+
+-- each edition makes rules after a step, where the present one does
+pub step_makes : (asked : Step) (H : History) (answer : Result Answered Refusal) (next : History) → Does asked H answer next → EditionsMakeRules H → MakesRules (present next) → EditionsMakeRules next
+step_makes asked H (Ok reply) next does all now = subst EditionsMakeRules (sym does.1) (some_makes asked.entry H all (subst (λ (h : History). MakesRules (present h)) does.1 now))
+step_makes asked H (Err refusal) next does all now = subst EditionsMakeRules (sym does.1) all

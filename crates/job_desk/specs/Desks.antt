@@ -1,5 +1,5 @@
 -- The desk: its chairs and its history.
-use Rattle.std.specs.Prelude.{◌≡◌, ℕ, ◌+◌, ◌≤◌, ◌==◌, Bool, false, List, Option, Vec, drop, reverse, ⊤}
+use Rattle.std.specs.Prelude.{ℕ, ◌+◌, ◌≤◌, ◌==◌, Bool, false, List, Option, Vec, drop, reverse, ⊤}
 use Rattle.std.specs.List.{position}
 use Rattle.std.specs.Option.{option_map}
 use Rattle.std.specs.declared.alloc.Global.{Global}
@@ -15,6 +15,7 @@ use Rattle.desk_history.specs.declared.tables.Tables.{Tables}
 use Rattle.desk_history.specs.Courses.{AreKept, history_of}
 use Rattle.desk_history.specs.Histories.{History}
 use Rattle.desk_history.specs.Opened.{IsLegal}
+use Rattle.desk_reopening.specs.Editions.{EditionsMakeRules}
 use Rattle.desk_laws.specs.Reopened.{AreNames}
 
 -- the names of the chairs, and what was done
@@ -29,10 +30,11 @@ pub record IsDesk (chairs : List (List ℕ)) (entries : Vec Entry Global) (table
   pub kept : AreKept entries tables
   pub bytes : tables.bytes ≤ MOST_ROW_BYTES
 
--- the same, with the index of its commands
+-- the same, with the index of its commands, where each edition makes rules
 pub record IsIndexedDesk (chairs : List (List ℕ)) (index : CommandIndex) (entries : Vec Entry Global) (tables : Tables) : Type 0 where
   pub desk : IsDesk chairs entries tables
   pub indexed : IsIndexOf (history_of entries) (place_at index)
+  pub editions : EditionsMakeRules (history_of entries)
 
 -- a bench lets go of its job, done or not
 abbrev pub IsEnd : Request → Type 0

@@ -10,8 +10,10 @@ ghost use Rattle.desk_history.specs.Histories.{History, edits, held, nth_of, out
 ghost use Rattle.desk_history.specs.Opened.{IsDamaged, IsLegal, Opens};
 ghost use Rattle.desk_history.specs.Rows.{rows};
 ghost use Rattle.desk_history.specs.Steps.{MayAsk, step};
+ghost use Rattle.desk_laws.specs.Best.{EachBest};
 ghost use Rattle.desk_laws.specs.Evidence.{EachPublished};
 ghost use Rattle.desk_laws.specs.Reopened.{AreNames};
+ghost use Rattle.desk_reopening.specs.Editions.{EditionsMakeRules};
 ghost use Rattle.desk_reopening.specs.Reading.{NamesDamage, SameRows};
 ghost use Rattle.job_desk.specs.Desks.{IsEnd, let_go};
 ghost use Rattle.job_desk.specs.Drawing.{drawn_of, value_of};
@@ -24,7 +26,7 @@ use command_index::{CommandIndex, index_of};
 use desk_history::{Answered, Entry, Outcome, Refusal, Request, Tables};
 use desk_keeper::{Keeper, Name};
 use desk_laws::evidence_laws;
-use desk_reopening::{OpenFault, Reopened, reopen};
+use desk_reopening::{OpenFault, Reopened, edition_laws, reopen};
 use std::alloc::{AllocError, Global};
 use std::marker::Model;
 
@@ -56,6 +58,7 @@ impl Desk {
         ensures { IfOk result (λ desk. desk ≡ record { chairs = chairs.items; history = [] }) }
     {
         let tables = Tables::empty(alloc)?;
+        edition_laws(&tables);
         let entries = Vec::new(alloc);
         let index = CommandIndex::new(alloc);
         Ok(Desk {
@@ -73,6 +76,7 @@ impl Desk {
         requires legal { IsLegal chairs.items (history_of reopened.entries) }
         requires kept { AreKept reopened.entries reopened.tables }
         requires bytes { reopened.tables.bytes ≤ MOST_ROW_BYTES }
+        requires editions { EditionsMakeRules (history_of reopened.entries) }
         ensures { IfOk result (λ desk. desk ≡ record { chairs = chairs.items; history = history_of reopened.entries }) }
     {
         let index = index_of(alloc, &reopened.entries)?;
@@ -103,6 +107,7 @@ impl Desk {
         ensures told { IfOk result (λ desk. Tells (P.rows keeper.new) (rows desk.history)) }
         ensures legal { IfOk result (λ desk. IsLegal desk.chairs desk.history) }
         ensures published { IfOk result (λ desk. EachPublished desk.history) }
+        ensures best { IfOk result (λ desk. EachBest desk.history) }
         ensures benches { IfOk result (λ desk. (bench : ℕ) → held desk.history bench ≡ None) }
 
         // Damage names the first row from which no history follows, and an opened desk says that there is no such row.
@@ -143,9 +148,10 @@ impl Desk {
         ensures fault { IsErrOf result Refusal.KeeperFault → Rose (P.faults keeper.old) (P.faults keeper.new) }
         ensures ends { IsEnd request → ¬ (IsErrOf result Refusal.Memory) }
         ensures published { EachPublished self.new.history }
+        ensures best { EachBest self.new.history }
     {
         evidence_laws();
-        ask(
+        let answered = ask(
             self.alloc,
             keeper,
             &self.chairs,
@@ -153,7 +159,9 @@ impl Desk {
             &mut self.entries,
             &mut self.tables,
             request,
-        )
+        );
+        edition_laws(&self.tables);
+        answered
     }
 
     /// The number of the present edition. Takes no memory.
@@ -170,12 +178,15 @@ impl Desk {
         looks::outcome_of(&self.tables, job)
     }
 
-    /// The number of entries of the history. Takes no memory.
+    /// The number of entries of the history, which is legal, and each publication of it is of a best lottery. Takes no
+    /// memory.
     pub fn entries(&self) -> u64
         ensures count { result ≡ length self.now.history }
         ensures few { result < 2 ^ 63 }
         ensures legal { IsLegal self.now.chairs self.now.history }
+        ensures best { EachBest self.now.history }
     {
+        evidence_laws();
         self.entries.len() as u64
     }
 

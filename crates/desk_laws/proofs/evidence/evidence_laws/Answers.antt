@@ -1,4 +1,5 @@
 use Rattle.desk_laws.proofs.LegalLaws.{certified_best, legal_shown, right_certificate}
+use Rattle.desk_laws.proofs.BestLaws.{legal_best}
 use Rattle.std.proofs.Common.{refl}
 use Rattle.desk_history.specs.Histories.{job_of}
 use Rattle.desk_laws.proofs.PublishedLaws.{legal_published, publishable_right}
@@ -18,3 +19,6 @@ returns-clause-published c chairs H legal = legal_published chairs H legal
 
 pub returns-clause-publishable : goal.returns-clause-publishable
 returns-clause-publishable c chairs H number certificate legal right there = publishable_right chairs H number (job_of H number) legal refl right certificate there
+
+pub returns-clause-each_best : goal.returns-clause-each_best
+returns-clause-each_best c chairs H legal make = legal_best chairs H legal make

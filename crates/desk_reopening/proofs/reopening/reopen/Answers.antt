@@ -1,9 +1,18 @@
+use Rattle.std.proofs.Common.{List, ap, reverse}
+use Rattle.desk_history.specs.declared.entries.Entry.{Entry}
 use Rattle.desk_history.specs.Courses.{history_of}
+use Rattle.desk_reopening.proofs.EditionLaws.{none_makes}
 use Rattle.desk_reopening.proofs.FrontLaws.{empty_kept, whole_benches, whole_bytes, whole_legal, whole_opens, whole_rows}
 use Rattle.desk_reopening.proofs.reopening.reopen.Goals as goal
 
 pub replay_rows-requires-clause-kept : goal.replay_rows-requires-clause-kept
 replay_rows-requires-clause-kept g c = empty_kept c.new-entries.result c.in-Ok.tables c.new-entries.ensures.items c.new-entries.ensures.len c.in-Ok.ensures
+
+pub replay_rows-requires-clause-editions : goal.replay_rows-requires-clause-editions
+replay_rows-requires-clause-editions g c =
+    let none = ap (λ (items : List Entry). reverse items) c.new-entries.ensures.items in
+    let kept = empty_kept c.new-entries.result c.in-Ok.tables c.new-entries.ensures.items c.new-entries.ensures.len c.in-Ok.ensures in
+    none_makes (history_of c.new-entries.result) none (c.edition_laws.ensures (history_of c.new-entries.result) kept.are)
 
 pub returns-in-Ok-replay_rows-clause-bytes : goal.returns-in-Ok-replay_rows-clause-bytes
 returns-in-Ok-replay_rows-clause-bytes g c = whole_bytes (g.P.Keeper.rows c.replay_rows.new.keeper) c.replay_rows.new.entries c.replay_rows.new.tables c.in-Ok-replay_rows.ensures.kept c.in-Ok-replay_rows.ensures.whole

@@ -1,4 +1,4 @@
-use Rattle.std.proofs.Common.{◌≡◌, ◌∙◌, ◌≤◌, ℕ, Some, Option, Vec, ap, arith, refl, subst}
+use Rattle.std.proofs.Common.{◌≡◌, ◌∙◌, ℕ, Some, Option, Vec, ap, arith, refl, subst}
 use Rattle.std.specs.List.{slice_get}
 use Rattle.std.specs.Option.{option_map}
 use Rattle.std.specs.declared.alloc.Global.{Global}
@@ -11,6 +11,7 @@ pub loop-place-init : goal.loop-place-init
 loop-place-init g c = record {
   kept = c.requires.kept;
   numbers = no_numbers c.new-numbers.result (history_of c.args.entries.now) c.requires.empty c.new-numbers.ensures;
+  editions = c.requires.editions;
   front = no_rows (g.P.Keeper.rows c.args.keeper.now) (history_of c.args.entries.now) c.requires.empty;
   same = record { untold = λ some. some; same = λ some. refl };
   later = omega arith;
@@ -30,6 +31,7 @@ pub loop-place-preserved : goal.loop-place-preserved
 loop-place-preserved g c = record {
   kept = c.in-Ok-replay_at.ensures.kept;
   numbers = c.in-Ok-replay_at.ensures.numbers;
+  editions = c.in-Ok-replay_at.ensures.editions;
   front = front_next (g.P.Keeper.rows c.read_at.new.keeper) c.loop-place.place (history_of c.loop-place.entries) c.as_slice.result.now (history_of c.replay_at.new.entries)
       (front_same (g.P.Keeper.rows c.loop-place.keeper) (g.P.Keeper.rows c.read_at.new.keeper) c.loop-place.place (history_of c.loop-place.entries) c.read_at.ensures.same c.loop-place.invariant.front)
       (λ told. ap Some c.as_slice.ensures.value ∙ subst (λ (o : Option (Vec ℕ Global)). option_map (λ (bytes : Vec ℕ Global). bytes.items) o ≡ slice_get (told_rows (g.P.Keeper.rows c.read_at.new.keeper)) c.loop-place.place) c.in-Some.is (c.in-Ok.ensures.found told))

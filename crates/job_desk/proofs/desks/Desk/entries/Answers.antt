@@ -2,6 +2,7 @@ use Rattle.std.proofs.Common.{◌≡◌, ◌∙◌, ap, length, rules, subst}
 use Rattle.std.proofs.lemmas.List.{length-reverse}
 use Rattle.desk_history.specs.Courses.{history_of}
 use Rattle.desk_history.specs.Opened.{IsLegal}
+use Rattle.desk_laws.specs.Best.{EachBest}
 use Rattle.job_desk.specs.Desks.{DeskValue}
 use Rattle.job_desk.proofs.desks.Desk.entries.Goals as goal
 
@@ -12,3 +13,8 @@ returns-clause-count c =
 
 pub returns-clause-legal : goal.returns-clause-legal
 returns-clause-legal c = subst (λ (v : DeskValue). IsLegal v.chairs v.history) c.self.view_is c.self.invariant.desk.legal
+
+pub returns-clause-best : goal.returns-clause-best
+returns-clause-best c =
+    subst (λ (v : DeskValue). EachBest v.history) c.self.view_is
+    (c.evidence_laws.ensures.each_best c.self.inside.chairs.items (history_of c.self.inside.entries) c.self.invariant.desk.legal c.self.invariant.editions)
