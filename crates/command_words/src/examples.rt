@@ -2,7 +2,8 @@
 
 ghost use Rattle.std.specs.Prelude.{◌≡◌, ◌∷◌, [], None, Some, codes};
 ghost use Rattle.command_words.specs.Commands.{command_of};
-ghost use Rattle.command_words.specs.declared.words.Command.TheVariants.{Make};
+ghost use Rattle.command_words.specs.declared.words.Command.TheVariants.{Make, Report};
+ghost use Rattle.reports.specs.declared.kinds.Report.TheVariants.{Institutions, Loads, Papers, Shares, Ticket};
 
 /// Words that ask for a made conference, and words that are near to them.
 pub fn worked_makings()
@@ -16,4 +17,21 @@ pub fn worked_makings()
     ensures a_sign { command_of (codes "make" ∷ codes "7" ∷ codes "+1" ∷ []) ≡ None }
     ensures too_few { command_of (codes "make" ∷ codes "7" ∷ []) ≡ None }
     ensures too_many { command_of (codes "make" ∷ codes "7" ∷ codes "1" ∷ codes "1" ∷ []) ≡ None }
+{}
+
+/// Words that ask for a report, and words that are near to them.
+pub fn worked_reports()
+    ensures shares { command_of (codes "report" ∷ codes "shares" ∷ []) ≡ Some (Report Shares) }
+    ensures loads { command_of (codes "report" ∷ codes "loads" ∷ []) ≡ Some (Report Loads) }
+    ensures papers { command_of (codes "report" ∷ codes "papers" ∷ []) ≡ Some (Report Papers) }
+    ensures institutions { command_of (codes "report" ∷ codes "institutions" ∷ []) ≡ Some (Report Institutions) }
+    ensures first { command_of (codes "report" ∷ codes "ticket" ∷ codes "0" ∷ []) ≡ Some (Report (Ticket 0)) }
+    ensures last { command_of (codes "report" ∷ codes "ticket" ∷ codes "9999" ∷ []) ≡ Some (Report (Ticket 9999)) }
+    ensures past_the_last { command_of (codes "report" ∷ codes "ticket" ∷ codes "10000" ∷ []) ≡ None }
+    ensures zero_in_front { command_of (codes "report" ∷ codes "ticket" ∷ codes "07" ∷ []) ≡ None }
+    ensures a_sign { command_of (codes "report" ∷ codes "ticket" ∷ codes "+7" ∷ []) ≡ None }
+    ensures no_number { command_of (codes "report" ∷ codes "ticket" ∷ []) ≡ None }
+    ensures a_number_more { command_of (codes "report" ∷ codes "shares" ∷ codes "7" ∷ []) ≡ None }
+    ensures no_report { command_of (codes "report" ∷ []) ≡ None }
+    ensures unknown { command_of (codes "report" ∷ codes "share" ∷ []) ≡ None }
 {}

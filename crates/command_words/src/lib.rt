@@ -6,6 +6,6 @@ mod found;
 mod usage_text;
 mod words;
 
-pub use examples::worked_makings;
+pub use examples::{worked_makings, worked_reports};
 pub use usage_text::usage;
-pub use words::{Command, MOST_SEED, MOST_SIZE, WordsFault, read_words};
+pub use words::{Command, MOST_SEED, MOST_SIZE, MOST_TICKET, WordsFault, read_words};

@@ -2,12 +2,13 @@
 ghost use Rattle.std.specs.Prelude.{◌≡◌, map, None, Some, [], Err, IfOk, unwrap_or, codes};
 ghost use Rattle.std.specs.String.{string_bytes};
 ghost use Rattle.clap.specs.Words.{all_of, rows_of, found_of};
-ghost use Rattle.command_words.specs.Commands.{command_of, command_of_two, command_of_three, command_of_word, make_of, mode_of_word, IsWithinLimits};
+ghost use Rattle.command_words.specs.Commands.{command_of, command_of_two, command_of_three, command_of_word, make_of, mode_of_word, report_of_ticket, report_of_word, IsWithinLimits};
 ghost use Rattle.command_words.specs.Hyphens.{is_plain, are_plain};
 
 use crate::found::find_words;
 use clap::ArgMatches;
 use match_rules::Mode;
+use reports::Report;
 use std::alloc::Global;
 use text_lines::{LineCode, number_from};
 
@@ -16,6 +17,9 @@ pub const MOST_SEED: u32 = 4_294_967_295;
 
 /// The greatest size of a made conference.
 pub const MOST_SIZE: u32 = 25;
+
+/// The greatest ticket of a report. A certified lottery has one more.
+pub const MOST_TICKET: u32 = 9_999;
 
 /// What a list of words asks for.
 #[derive(Clone, Copy)]
@@ -33,6 +37,8 @@ pub enum Command {
         /// How many blocks it has, from 1 to 25.
         size: u32,
     },
+    /// A report of a certified lottery.
+    Report(Report),
 }
 
 /// Why words were not read.
@@ -85,11 +91,37 @@ fn mode_of_word(word: &str) -> Option<Mode>
     }
 }
 
+// The report that a word names.
+fn report_of_word(word: &str) -> Option<Report>
+    ensures { result ≡ report_of_word word.now }
+{
+    match word {
+        "shares" => Some(Report::Shares),
+        "loads" => Some(Report::Loads),
+        "papers" => Some(Report::Papers),
+        "institutions" => Some(Report::Institutions),
+        _ => None,
+    }
+}
+
+// The report of a ticket.
+fn report_of_ticket(word: &str, number: &str) -> Option<Report>
+    ensures { result ≡ report_of_ticket word.now number.now }
+{
+    match word {
+        "ticket" => Some(Report::Ticket {
+            ticket: number_from(number, 0, MOST_TICKET).ok()?,
+        }),
+        _ => None,
+    }
+}
+
 fn command_of_two(word: &str, other: &str) -> Option<Command>
     ensures { result ≡ command_of_two word.now other.now }
 {
     match word {
         "solve" => Some(Command::Solve(mode_of_word(other)?)),
+        "report" => Some(Command::Report(report_of_word(other)?)),
         _ => None,
     }
 }
@@ -104,14 +136,15 @@ fn make_of(seed: Result<u32, LineCode>, size: Result<u32, LineCode>) -> Option<C
     })
 }
 
-fn command_of_three(word: &str, seed: &str, size: &str) -> Option<Command>
-    ensures { result ≡ command_of_three word.now seed.now size.now }
+fn command_of_three(word: &str, other: &str, third: &str) -> Option<Command>
+    ensures { result ≡ command_of_three word.now other.now third.now }
 {
     match word {
         "make" => make_of(
-            number_from(seed, 0, MOST_SEED),
-            number_from(size, 1, MOST_SIZE),
+            number_from(other, 0, MOST_SEED),
+            number_from(third, 1, MOST_SIZE),
         ),
+        "report" => Some(Command::Report(report_of_ticket(other, third)?)),
         _ => None,
     }
 }
@@ -122,7 +155,7 @@ fn command_of(words: &[&str]) -> Option<Command>
     match words {
         [word] => command_of_word(word),
         [word, other] => command_of_two(word, other),
-        [word, seed, size] => command_of_three(word, seed, size),
+        [word, other, third] => command_of_three(word, other, third),
         _ => None,
     }
 }

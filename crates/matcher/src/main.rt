@@ -1,6 +1,6 @@
-//! `matcher check` checks a certificate on standard input, `matcher rules` writes the rules of the current folder, and
-//! `matcher solve whole` writes them with a best lottery, or with a cut that shows that none fits. `matcher make 7 4` makes a conference
-//! in memory to try that on.
+//! `matcher check` checks a certificate on standard input, and `matcher report shares` writes a table of its lottery. `matcher rules`
+//! writes the rules of the current folder, and `matcher solve whole` writes them with a best lottery, or with a cut that shows that none
+//! fits. `matcher make 7 4` makes a conference in memory to try that on.
 #![tactic(auto)]
 
 use edge_io::{DirFolder, ReadSource, WriteSink};

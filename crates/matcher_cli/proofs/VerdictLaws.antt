@@ -21,7 +21,7 @@ judges_checks Refused bytes rules answer old new text judged = absurd judged
 judges_checks Memory bytes rules answer old new text judged = tt
 
 -- a status that says nothing of the bytes
-fault_exact : (bytes : List ℕ) (status : Status) → IsFault status → IsExact bytes status
+pub fault_exact : (bytes : List ℕ) (status : Status) → IsFault status → IsExact bytes status
 fault_exact bytes status fault = record {
   valid = λ r a text holds. inr fault;
   invalid = λ r a text broken. inr fault;
@@ -33,12 +33,12 @@ abbrev pair_of : RulesValue → Answer → RulesValue × Answer
 pair_of rules answer = (rules, answer)
 
 -- validity is a matter of the bytes, where no other certificate has them
-same_holds : (rules others : RulesValue) (answer other : Answer) → (rules ≡ others) × (answer ≡ other) → Holds others other → Holds rules answer
+pub same_holds : (rules others : RulesValue) (answer other : Answer) → (rules ≡ others) × (answer ≡ other) → Holds others other → Holds rules answer
 same_holds rules others answer other same holds =
     let first : Holds rules other = subst (λ (r : RulesValue). Holds r other) (sym same.0) holds in
     subst (λ (a : Answer). Holds rules a) (sym same.1) first
 
-holds_too : (rules others : RulesValue) (answer other : Answer) → (rules ≡ others) × (answer ≡ other) → Holds rules answer → Holds others other
+pub holds_too : (rules others : RulesValue) (answer other : Answer) → (rules ≡ others) × (answer ≡ other) → Holds rules answer → Holds others other
 holds_too rules others answer other same holds =
     let first : Holds others answer = subst (λ (r : RulesValue). Holds r answer) same.0 holds in
     subst (λ (a : Answer). Holds others a) same.1 first

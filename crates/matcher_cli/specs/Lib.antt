@@ -3,6 +3,7 @@ pub mod FolderRules
 pub mod Lines
 pub mod Making
 pub mod Refusals
+pub mod Reporting
 pub mod Solving
 pub mod Verdicts
 pub mod Words

@@ -7,6 +7,9 @@ use Rattle.match_rules.specs.Rules.{RulesValue}
 use Rattle.publication.specs.Certificates.{IsCertificate, certificate_text}
 use Rattle.publication.specs.Checks.{check_break_of, Holds}
 use Rattle.publication.specs.DueLines.{certificate_due}
+use Rattle.publication.specs.Refusals.{refusal_of_fault}
+use Rattle.publication.specs.declared.refusal.ReadRefusal.{ReadRefusal}
+use Rattle.publication.specs.declared.refusal.ReadRefusal.TheVariants as refusals
 use Rattle.text_lines.specs.declared.fault.TextFault.{TextFault}
 use Rattle.text_lines.specs.FirstFault.{HasFault}
 use Rattle.matcher_cli.specs.declared.status.Status.{Status}
@@ -75,6 +78,17 @@ Checks ReadFault bytes old new = Unit {0}
 Checks WriteFault bytes old new = FrontDue bytes old new
 Checks Refused bytes old new = (fault : TextFault) × IsNoText bytes × IsFaultOf fault bytes × Written old new (fault_line fault)
 Checks Memory bytes old new = Unit {0}
+
+-- what is answered and written for a text that was not read, by the status
+abbrev pub IsRefusalTold : Status → ReadRefusal → List ℕ → Option (List ℕ) → Type 0
+IsRefusalTold Done refusal old new = ⊥
+IsRefusalTold Broken refusal old new = ⊥
+IsRefusalTold Infeasible refusal old new = ⊥
+IsRefusalTold Usage refusal old new = ⊥
+IsRefusalTold ReadFault refusal old new = refusal ≡ refusals.ReadFault
+IsRefusalTold WriteFault refusal old new = (fault : TextFault) × (refusal ≡ refusal_of_fault fault) × FrontWritten old new (fault_line fault)
+IsRefusalTold Refused refusal old new = (fault : TextFault) × (refusal ≡ refusal_of_fault fault) × Written old new (fault_line fault)
+IsRefusalTold Memory refusal old new = refusal ≡ refusals.Memory
 
 -- a status that says nothing of the bytes: a fault of the source or the sink, or want of memory
 abbrev pub IsFault : Status → Type 0

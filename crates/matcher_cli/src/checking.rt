@@ -3,16 +3,15 @@ ghost use Rattle.std.specs.Prelude.{◌≡◌, ◌≢◌, ◌⊎◌, [], IsSome}
 ghost use Rattle.edge_io.specs.Counts.{Rose};
 ghost use Rattle.edge_io.specs.Told.{told};
 ghost use Rattle.publication.specs.Certificates.{IsCertificate};
-ghost use Rattle.matcher_cli.specs.Lines.{fault_line};
-ghost use Rattle.matcher_cli.specs.Verdicts.{IsExact, Judges, Checks, FrontWritten, Written};
+ghost use Rattle.matcher_cli.specs.Verdicts.{IsExact, Judges, Checks};
 
-use crate::lines::{broken_line, fault_line, valid_line};
+use crate::lines::{broken_line, valid_line};
 use crate::status::Status;
+use crate::text_refusals::tell_refusal;
 use edge_io::{Sink, Source, write_all};
 use match_rules::{Answer, Rules, Scratch};
-use publication::{ReadRefusal, check, read_certificate};
+use publication::{check, read_certificate};
 use std::alloc::Global;
-use text_lines::TextFault;
 
 // Says that an answer is valid, or its first break.
 fn judge<K: Sink>(alloc: Global, rules: &Rules, answer: &Answer, sink: &mut K) -> Status
@@ -36,19 +35,6 @@ fn judge<K: Sink>(alloc: Global, rules: &Rules, answer: &Answer, sink: &mut K) -
     }
 }
 
-// Says what is wrong with the text.
-fn refuse_text<K: Sink>(fault: TextFault, sink: &mut K) -> Status
-    ensures status { (result ≡ Status.Refused) ⊎ (result ≡ Status.WriteFault) }
-    ensures written { result ≡ Status.Refused → Written (told (K.taken sink.old)) (K.taken sink.new) (fault_line fault) }
-    ensures front { result ≡ Status.WriteFault → FrontWritten (told (K.taken sink.old)) (K.taken sink.new) (fault_line fault) }
-    ensures cause { result ≡ Status.WriteFault → Rose (K.faults sink.old) (K.faults sink.new) }
-{
-    match write_all(sink, fault_line(fault).as_slice()) {
-        Ok(()) => Status::Refused,
-        Err(_) => Status::WriteFault,
-    }
-}
-
 /// Reads a certificate and judges it.
 pub(crate) fn check_text<S: Source, K: Sink>(alloc: Global, source: &mut S, sink: &mut K) -> Status
     ensures checks { IsSome (S.left source.new) → Checks result (told (S.left source.old)) (told (K.taken sink.old)) (K.taken sink.new) }
@@ -61,12 +47,6 @@ pub(crate) fn check_text<S: Source, K: Sink>(alloc: Global, source: &mut S, sink
 {
     match read_certificate(alloc, source) {
         Ok(certificate) => judge(alloc, &certificate.rules, &certificate.answer, sink),
-        Err(ReadRefusal::Memory) => Status::Memory,
-        Err(ReadRefusal::ReadFault) => Status::ReadFault,
-        Err(ReadRefusal::Truncated) => refuse_text(TextFault::Truncated, sink),
-        Err(ReadRefusal::Trailing) => refuse_text(TextFault::Trailing, sink),
-        Err(ReadRefusal::BadLine { number, code }) => {
-            refuse_text(TextFault::BadLine { number, code }, sink)
-        }
+        Err(refusal) => tell_refusal(refusal, sink),
     }
 }

@@ -8,9 +8,11 @@ mod made_line;
 mod making;
 mod matching;
 mod refusals;
+mod reporting;
 mod solving;
 mod status;
 mod sure_folder;
+mod text_refusals;
 
 pub use matching::matcher;
 pub use refusals::write_refusal;

@@ -6,6 +6,7 @@ ghost use Rattle.edge_io.specs.Told.{told};
 ghost use Rattle.command_words.specs.Usage.{usage_text};
 ghost use Rattle.matcher_cli.specs.FolderRules.{IsServedExactly, RulesServed, rules_in};
 ghost use Rattle.matcher_cli.specs.Making.{Makes, made_rules};
+ghost use Rattle.matcher_cli.specs.Reporting.{IsReportedExactly, Reports};
 ghost use Rattle.matcher_cli.specs.Solving.{IsSolvedExactly, Solves};
 ghost use Rattle.matcher_cli.specs.Words.{Asks, AsksNothing};
 ghost use Rattle.matcher_cli.specs.Verdicts.{IsExact, Checks, FrontWritten, Written};
@@ -13,11 +14,13 @@ ghost use Rattle.matcher_cli.specs.Verdicts.{IsExact, Checks, FrontWritten, Writ
 use crate::checking::check_text;
 use crate::folder_rules::serve_rules;
 use crate::making::serve_making;
+use crate::reporting::serve_report;
 use crate::solving::serve_solution;
 use crate::status::Status;
 use command_words::{Command, WordsFault, read_words, usage};
 use edge_io::{Folder, Sink, Source, write_all};
 use match_rules::Mode;
+use reports::Report;
 use std::alloc::Global;
 
 // Says that the words aren't taken.
@@ -35,7 +38,8 @@ fn refuse_words<K: Sink>(sink: &mut K) -> Status
 
 /// Does what the words ask. With the one word `check` it reads a certificate from the source, all that there is, and
 /// writes the line of the check into the sink; its memory is that of the certificate, of its longest line, 65,536
-/// bytes, and a counter for each paper, reviewer, group and pair. With the one word `rules` it reads the files of the
+/// bytes, and a counter for each paper, reviewer, group and pair. With the words `report WHAT` it reads and checks a certificate
+/// too, and writes a table of its lottery; it takes a number for each paper, reviewer or institution more. With the one word `rules` it reads the files of the
 /// folder and writes their rules; its memory is that of the files one at a time, and of what they make. With the words
 /// `solve whole` it writes these rules and a best lottery of them with its evidence, or the cut that shows that none fits; with
 /// the words `solve fair` the same under the greatest threshold of the scores at which some lottery fits. With the words
@@ -62,6 +66,15 @@ pub fn matcher<S: Source, K: Sink, F: Folder>(
     ensures end { IsSome (S.left source.new) → Asks words.now Command.Check → (result ≡ Status.Done) ⊎ (result ≡ Status.Broken) → told (S.left source.new) ≡ [] }
     ensures source_fault { Asks words.now Command.Check → result ≡ Status.ReadFault → Rose (S.faults source.old) (S.faults source.new) }
 
+    // The report, where the source tells its bytes: 0 comes exactly where they are the text of rules and of a certified lottery, with
+    // the text of its report; 1 where the answer breaks a clause, with the line of the first, and where it is a valid cut, which shows
+    // that no lottery fits, with the line of its need and its room; 6 where they are no such text, with the line of their first
+    // fault. Where writing failed, a front of the text was written.
+    ensures reports { IsSome (S.left source.new) → (what : Report) → Asks words.now (Command.Report what) → Reports result what (told (S.left source.old)) (told (K.taken sink.old)) (K.taken sink.new) }
+    ensures exact_reports { IsSome (S.left source.new) → (what : Report) → Asks words.now (Command.Report what) → IsReportedExactly (told (S.left source.old)) result }
+    ensures report_end { IsSome (S.left source.new) → (what : Report) → Asks words.now (Command.Report what) → (result ≡ Status.Done) ⊎ ((result ≡ Status.Broken) ⊎ (result ≡ Status.Infeasible)) → told (S.left source.new) ≡ [] }
+    ensures reported_fault { (what : Report) → Asks words.now (Command.Report what) → result ≡ Status.ReadFault → Rose (S.faults source.old) (S.faults source.new) }
+
     // The rules, where the folder tells its files: 0 comes exactly where they make rules, with their text, 6 where they
     // don't, with the line of the first that is wrong. Where writing failed, a front of the text was written.
     ensures rules { IsSome (F.files folder.new) → Asks words.now Command.Rules → RulesServed result (told_files (F.files folder.old)) (told (K.taken sink.old)) (K.taken sink.new) }
@@ -86,8 +99,8 @@ pub fn matcher<S: Source, K: Sink, F: Folder>(
 
     ensures write_fault { result ≡ Status.WriteFault → Rose (K.faults sink.old) (K.faults sink.new) }
 
-    // `check` alone reads from the source, and `rules` and `solve` alone from the folder; `make` reads neither.
-    ensures source_kept { ¬ (Asks words.now Command.Check) → source.new ≡ source.old }
+    // `check` and `report` alone read from the source, and `rules` and `solve` alone from the folder; `make` reads neither.
+    ensures source_kept { ¬ (Asks words.now Command.Check) → ((what : Report) → ¬ (Asks words.now (Command.Report what))) → source.new ≡ source.old }
     ensures folder_kept { ¬ (Asks words.now Command.Rules) → ((mode : Mode) → ¬ (Asks words.now (Command.Solve mode))) → folder.new ≡ folder.old }
 
     // Nothing is written where reading failed or memory was wanting.
@@ -98,6 +111,7 @@ pub fn matcher<S: Source, K: Sink, F: Folder>(
         Ok(Command::Rules) => serve_rules(alloc, folder, sink),
         Ok(Command::Solve(mode)) => serve_solution(alloc, mode, folder, sink),
         Ok(Command::Make { seed, size }) => serve_making(alloc, seed, size, sink),
+        Ok(Command::Report(what)) => serve_report(alloc, what, source, sink),
         Err(WordsFault::Usage) => refuse_words(sink),
         Err(WordsFault::Memory) => Status::Memory,
     }

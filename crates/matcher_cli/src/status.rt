@@ -5,11 +5,11 @@ ghost use Rattle.matcher_cli.specs.Codes.{code_of};
 /// How a run of the program ended; `code` is the exit status.
 #[derive(Debug, Clone, Copy, PartialEq, Eq)]
 pub enum Status {
-    /// What was asked is done: the answer is valid, the rules are written, or a best lottery is written.
+    /// What was asked is done: the answer is valid, the rules are written, a best lottery is written, or a report is.
     Done,
     /// The answer breaks a clause: the line names the first.
     Broken,
-    /// No lottery fits the rules: the cut that shows it is written.
+    /// No lottery fits the rules: the cut that shows it is written, or, where it was read, its line.
     Infeasible,
     /// The words aren't taken.
     Usage,

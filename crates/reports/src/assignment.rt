@@ -1,5 +1,5 @@
 // The pairs of the assignment that a ticket draws.
-ghost use Rattle.std.specs.Prelude.{◌≡◌, ◌<◌, ◌≤◌, All, length};
+ghost use Rattle.std.specs.Prelude.{◌≡◌, ◌<◌, ◌≤◌, All, length, IsErrOf};
 ghost use Rattle.edge_io.specs.Counts.{HasCause};
 ghost use Rattle.edge_io.specs.Told.{AddsAll};
 ghost use Rattle.match_rules.specs.Answers.{LotteryMatches};
@@ -8,6 +8,7 @@ ghost use Rattle.text_lines.specs.Texts.{line_of, lines_of};
 ghost use Rattle.reports.specs.Faults.{WriteFails};
 ghost use Rattle.reports.specs.Reports.{assignment_of};
 ghost use Rattle.reports.specs.Tables.{assignment_text, pair_line};
+ghost use Rattle.reports.specs.declared.kinds.ReportFault.TheVariants.{Memory};
 
 use crate::kinds::ReportFault;
 use crate::lines::{begun_with_pair, end_line};
@@ -39,6 +40,7 @@ fn write_assignment<K: Sink>(rules: &Rules, places: &[u32], sink: &mut K) -> Res
     requires { All (λ e. e < length rules.now.pairs) places.now }
     ensures taken { AddsAll (K.taken sink.old) (K.taken sink.new) result (assignment_text rules.now places.now) }
     ensures cause { WriteFails (K.faults sink.old) (K.faults sink.new) result }
+    ensures quiet { IsErrOf result Memory → K.taken sink.new ≡ K.taken sink.old }
 {
     write_all(sink, b"paper,reviewer\n")?;
     write_pair_lines(rules, places, sink)?;
@@ -56,6 +58,7 @@ pub(crate) fn write_ticket<K: Sink>(
     requires ticket { ticket < tickets lottery.now }
     ensures taken { AddsAll (K.taken sink.old) (K.taken sink.new) result (assignment_text rules.now (assignment_of lottery.now ticket)) }
     ensures cause { WriteFails (K.faults sink.old) (K.faults sink.new) result }
+    ensures quiet { IsErrOf result Memory → K.taken sink.new ≡ K.taken sink.old }
 {
     let Some(place) = piece_of(lottery, ticket) else {
         return Ok(());

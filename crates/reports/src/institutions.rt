@@ -1,5 +1,5 @@
 // The table of institutions.
-ghost use Rattle.std.specs.Prelude.{◌≡◌, ◌+◌, ◌^◌, List, Some, ◌<◌, ◌≤◌, ℕ, length, slice_index, slice_index_or, [], IfOk, true};
+ghost use Rattle.std.specs.Prelude.{◌≡◌, ◌+◌, ◌^◌, List, Some, ◌<◌, ◌≤◌, ℕ, length, slice_index, slice_index_or, [], IfOk, true, IsErrOf};
 ghost use Rattle.std.specs.List.Sorted.{IsStrictlySortedBy};
 ghost use Rattle.edge_io.specs.Counts.{HasCause};
 ghost use Rattle.edge_io.specs.Told.{AddsAll};
@@ -12,6 +12,7 @@ ghost use Rattle.text_lines.specs.Texts.{line_of};
 ghost use Rattle.reports.specs.Faults.{WriteFails};
 ghost use Rattle.reports.specs.Institutions.{is_at, institutions, institution_line, institutions_text, sum_at};
 ghost use Rattle.reports.specs.Lists.{texts_below};
+ghost use Rattle.reports.specs.declared.kinds.ReportFault.TheVariants.{Memory};
 
 use crate::kinds::ReportFault;
 use crate::lines::{begun_with_institution, end_line, push_number};
@@ -113,6 +114,7 @@ pub(crate) fn write_institutions<K: Sink>(
     requires { SharesMatch rules.now shares.now }
     ensures taken { AddsAll (K.taken sink.old) (K.taken sink.new) result (institutions_text rules.now shares.now) }
     ensures cause { WriteFails (K.faults sink.old) (K.faults sink.new) result }
+    ensures quiet { IsErrOf result Memory → K.taken sink.new ≡ K.taken sink.old }
 {
     let loads = loads_of(alloc, rules, shares)?;
     let names = institutions(alloc, rules.reviewers())?;

@@ -1,5 +1,5 @@
 // The table of loads.
-ghost use Rattle.std.specs.Prelude.{◌≡◌, ◌≤◌, ◌↔◌, length, slice_index, IfOk};
+ghost use Rattle.std.specs.Prelude.{◌≡◌, ◌≤◌, ◌↔◌, length, slice_index, IfOk, IsErrOf};
 ghost use Rattle.edge_io.specs.Counts.{HasCause};
 ghost use Rattle.edge_io.specs.Told.{AddsAll};
 ghost use Rattle.match_rules.specs.Answers.{SharesMatch};
@@ -10,6 +10,7 @@ ghost use Rattle.text_lines.specs.Texts.{line_of};
 ghost use Rattle.reports.specs.Faults.{WriteFails};
 ghost use Rattle.reports.specs.Lists.{texts_below};
 ghost use Rattle.reports.specs.Tables.{load_line, loads_text};
+ghost use Rattle.reports.specs.declared.kinds.ReportFault.TheVariants.{Memory};
 
 use crate::kinds::ReportFault;
 use crate::lines::{begun_with, end_line, push_number};
@@ -78,6 +79,7 @@ pub(crate) fn write_loads<K: Sink>(
     requires { SharesMatch rules.now shares.now }
     ensures taken { AddsAll (K.taken sink.old) (K.taken sink.new) result (loads_text rules.now shares.now) }
     ensures cause { WriteFails (K.faults sink.old) (K.faults sink.new) result }
+    ensures quiet { IsErrOf result Memory → K.taken sink.new ≡ K.taken sink.old }
 {
     let loads = loads_of(alloc, rules, shares)?;
     write_all(sink, b"reviewer,least,greatest,tickets\n")?;

@@ -1,5 +1,5 @@
 // The table of papers.
-ghost use Rattle.std.specs.Prelude.{◌≡◌, ◌^◌, ◌<◌, ◌≤◌, length, slice_index, slice_index_or, IfOk, pos, neg_ℤ, ◌+ℤ◌, ◌*ℤ◌, ◌≤ℤ◌};
+ghost use Rattle.std.specs.Prelude.{◌≡◌, ◌^◌, ◌<◌, ◌≤◌, length, slice_index, slice_index_or, IfOk, pos, neg_ℤ, ◌+ℤ◌, ◌*ℤ◌, ◌≤ℤ◌, IsErrOf};
 ghost use Rattle.edge_io.specs.Counts.{HasCause};
 ghost use Rattle.edge_io.specs.Told.{AddsAll};
 ghost use Rattle.match_rules.specs.Answers.{SharesMatch};
@@ -8,6 +8,7 @@ ghost use Rattle.text_lines.specs.Texts.{line_of};
 ghost use Rattle.reports.specs.Faults.{WriteFails};
 ghost use Rattle.reports.specs.Lists.{AreScores, texts_below};
 ghost use Rattle.reports.specs.Tables.{paper_line, paper_score, papers_text};
+ghost use Rattle.reports.specs.declared.kinds.ReportFault.TheVariants.{Memory};
 
 use crate::kinds::ReportFault;
 use crate::lines::{begun_with, end_line, push_number, push_signed};
@@ -103,6 +104,7 @@ pub(crate) fn write_papers<K: Sink>(
     requires { SharesMatch rules.now shares.now }
     ensures taken { AddsAll (K.taken sink.old) (K.taken sink.new) result (papers_text rules.now shares.now) }
     ensures cause { WriteFails (K.faults sink.old) (K.faults sink.new) result }
+    ensures quiet { IsErrOf result Memory → K.taken sink.new ≡ K.taken sink.old }
 {
     let scores = scores_of(alloc, rules, shares)?;
     write_all(sink, b"paper,demand,score\n")?;

@@ -1,11 +1,12 @@
 // The table of shares.
-ghost use Rattle.std.specs.Prelude.{◌≡◌, ◌<◌, ◌≤◌, length};
+ghost use Rattle.std.specs.Prelude.{◌≡◌, ◌<◌, ◌≤◌, length, IsErrOf};
 ghost use Rattle.edge_io.specs.Counts.{HasCause};
 ghost use Rattle.edge_io.specs.Told.{AddsAll};
 ghost use Rattle.text_lines.specs.Texts.{line_of};
 ghost use Rattle.reports.specs.Faults.{WriteFails};
 ghost use Rattle.reports.specs.Lists.{texts_below};
 ghost use Rattle.reports.specs.Tables.{share_line, share_text, shares_text};
+ghost use Rattle.reports.specs.declared.kinds.ReportFault.TheVariants.{Memory};
 
 use crate::kinds::ReportFault;
 use crate::lines::{begun_with_pair, end_line, push_number, push_score};
@@ -59,6 +60,7 @@ pub(crate) fn write_shares<K: Sink>(
     requires { length shares.now ≡ length rules.now.pairs }
     ensures taken { AddsAll (K.taken sink.old) (K.taken sink.new) result (shares_text rules.now shares.now) }
     ensures cause { WriteFails (K.faults sink.old) (K.faults sink.new) result }
+    ensures quiet { IsErrOf result Memory → K.taken sink.new ≡ K.taken sink.old }
 {
     write_all(sink, b"paper,reviewer,score,tickets\n")?;
     write_share_lines(rules, shares, sink)?;

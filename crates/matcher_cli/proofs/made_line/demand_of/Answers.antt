@@ -1,7 +1,6 @@
-use Rattle.std.proofs.Common.{◌≡◌, ◌+◌, ◌≤◌, ◌∙◌, ap, sym, arith, take}
+use Rattle.std.proofs.Common.{◌+◌, ◌∙◌, ap, arith}
 use Rattle.std.proofs.lemmas.List.{get_or_read, take_all}
-use Rattle.match_rules.specs.declared.rules.RulePaper.{RulePaper}
-use Rattle.match_rules.specs.Rules.{demand_total, no_paper, paper_in}
+use Rattle.match_rules.specs.Rules.{demand_total, no_paper}
 use Rattle.matcher_cli.proofs.DemandLaws.{demand_next, demand_room}
 use Rattle.matcher_cli.proofs.made_line.demand_of.Goals as goal
 
