@@ -1,2 +1,3 @@
+pub mod ChairLaws
 pub mod MakingLaws
 pub mod Walks

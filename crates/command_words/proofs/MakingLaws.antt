@@ -11,10 +11,12 @@ use Rattle.text_lines.specs.Forms.{number_from}
 use Rattle.text_lines.proofs.FormLaws.{number_from_takes}
 use Rattle.reports.specs.declared.kinds.Report.{Report as Kind}
 use Rattle.reports.specs.declared.kinds.Report.TheVariants.{Shares, Loads, Papers, Institutions, Ticket}
-use Rattle.command_words.specs.Commands.{IsReportWithin, IsWithinLimits, command_of, command_of_three, command_of_two, command_of_word, make_of, mode_of_word, report_of_ticket, report_of_word}
+use Rattle.command_words.specs.Chairs.{may_be_chairs}
+use Rattle.command_words.specs.Hyphens.{are_plain}
+use Rattle.command_words.specs.Commands.{IsReportWithin, IsWithinLimits, command_of, command_of_few, command_of_plain, command_of_three, command_of_two, command_of_word, make_of, mode_of_word, report_of_ticket, report_of_word, session_of}
 use Rattle.command_words.specs.declared.words.TheConstants.{MOST_SEED, MOST_SIZE, MOST_TICKET}
 use Rattle.command_words.specs.declared.words.Command.{Command}
-use Rattle.command_words.specs.declared.words.Command.TheVariants.{Check, Rules, Solve, Report}
+use Rattle.command_words.specs.declared.words.Command.TheVariants.{Check, Rules, Solve, Report, Session}
 
 -- the command is within its limits, where there is one
 abbrev Fits : Option Command → Type 0
@@ -82,21 +84,28 @@ three_fit word other third =
     (λ n e. let size_takes = number_from_takes 1 MOST_SIZE third n (omega arith) e in (size_takes.1, size_takes.2)))
     (either (bytes_eq word (codes "report")) (option_map Report (report_of_ticket other third)) None (report_fits (report_of_ticket other third) (ticket_tells other third)) tt)
 
+few_fit : (word : List ℕ) (others : List (List ℕ)) → Fits (command_of_few word others)
+few_fit word [] = word_fits word
+few_fit word (other ∷ []) = two_fit word other
+few_fit word (other ∷ third ∷ []) = three_fit word other third
+few_fit word (other ∷ third ∷ fourth ∷ more) = tt
+
+plain_fit : (words : List (List ℕ)) → Fits (command_of_plain words)
+plain_fit [] = tt
+plain_fit (word ∷ others) =
+    either (bytes_eq word (codes "session")) (session_of others) (command_of_few word others)
+    (either (may_be_chairs others) (Some Session) None tt tt) (few_fit word others)
+
 all_fit : (words : List (List ℕ)) → Fits (command_of words)
-all_fit [] = tt
-all_fit (word ∷ []) = word_fits word
-all_fit (word ∷ other ∷ []) = two_fit word other
-all_fit (word ∷ other ∷ third ∷ []) = three_fit word other third
-all_fit (word ∷ other ∷ third ∷ fourth ∷ more) = tt
+all_fit words = either (are_plain words) (command_of_plain words) None (plain_fit words) tt
 
 -- whatever words ask for is within its limits
 pub command_fits : (words : List (List ℕ)) (command : Command) → command_of words ≡ Some command → IsWithinLimits command
 command_fits words command is = subst Fits is (all_fit words)
 
--- four words and more ask for nothing
-pub many_ask_nothing : (words : List (Bor (List ℕ))) → 4 ≤ length words → command_of (map (λ word. word.now) words) ≡ None
-many_ask_nothing [] many = absurd (omega (arith, many))
-many_ask_nothing (word ∷ []) many = absurd (omega (arith, many))
-many_ask_nothing (word ∷ other ∷ []) many = absurd (omega (arith, many))
-many_ask_nothing (word ∷ other ∷ third ∷ []) many = absurd (omega (arith, many))
-many_ask_nothing (word ∷ other ∷ third ∷ fourth ∷ more) many = refl
+-- three words and more behind a word ask for nothing
+pub many_ask_nothing : (word : List ℕ) (others : List (Bor (List ℕ))) → 3 ≤ length others → command_of_few word (map (λ other. other.now) others) ≡ None
+many_ask_nothing word [] many = absurd (omega (arith, many))
+many_ask_nothing word (other ∷ []) many = absurd (omega (arith, many))
+many_ask_nothing word (other ∷ third ∷ []) many = absurd (omega (arith, many))
+many_ask_nothing word (other ∷ third ∷ fourth ∷ more) many = refl

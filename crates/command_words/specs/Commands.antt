@@ -9,9 +9,11 @@ use Rattle.reports.specs.declared.kinds.Report.{Report as Kind}
 use Rattle.reports.specs.declared.kinds.Report.TheVariants.{Shares, Loads, Papers, Institutions, Ticket}
 use Rattle.text_lines.specs.declared.fault.LineCode.{LineCode}
 use Rattle.text_lines.specs.Forms.{number_from}
+use Rattle.command_words.specs.Chairs.{may_be_chairs}
+use Rattle.command_words.specs.Hyphens.{are_plain}
 use Rattle.command_words.specs.declared.words.TheConstants.{MOST_SEED, MOST_SIZE, MOST_TICKET}
 use Rattle.command_words.specs.declared.words.Command.{Command}
-use Rattle.command_words.specs.declared.words.Command.TheVariants.{Check, Rules, Solve, Make, Report}
+use Rattle.command_words.specs.declared.words.Command.TheVariants.{Check, Rules, Solve, Make, Report, Session}
 
 -- the command that one word asks for
 abbrev pub command_of_word : List ℕ → Option Command
@@ -54,13 +56,29 @@ command_of_three word other third =
     if bytes_eq word (codes "make") then make_of (number_from 0 MOST_SEED other) (number_from 1 MOST_SIZE third) else
     (if bytes_eq word (codes "report") then option_map Report (report_of_ticket other third) else None)
 
+-- the session of these chairs
+abbrev pub session_of : List (List ℕ) → Option Command
+session_of chairs = if may_be_chairs chairs then Some Session else None
+
+-- the command that a word and at most two behind it ask for
+abbrev pub command_of_few : List ℕ → List (List ℕ) → Option Command
+command_of_few word [] = command_of_word word
+command_of_few word (other ∷ []) = command_of_two word other
+command_of_few word (other ∷ third ∷ []) = command_of_three word other third
+command_of_few word (other ∷ third ∷ fourth ∷ more) = None
+
+-- the command that a word and those behind it ask for
+abbrev pub command_of_words : List ℕ → List (List ℕ) → Option Command
+command_of_words word others = if bytes_eq word (codes "session") then session_of others else command_of_few word others
+
+-- the command that words ask for of which none begins with a hyphen
+abbrev pub command_of_plain : List (List ℕ) → Option Command
+command_of_plain [] = None
+command_of_plain (word ∷ others) = command_of_words word others
+
 -- the command that the words behind the program's name ask for
 abbrev pub command_of : List (List ℕ) → Option Command
-command_of [] = None
-command_of (word ∷ []) = command_of_word word
-command_of (word ∷ other ∷ []) = command_of_two word other
-command_of (word ∷ other ∷ third ∷ []) = command_of_three word other third
-command_of (word ∷ other ∷ third ∷ fourth ∷ more) = None
+command_of words = if are_plain words then command_of_plain words else None
 
 -- the ticket of a report is within its limit
 abbrev pub IsReportWithin : Kind → Type 0
@@ -77,3 +95,4 @@ IsWithinLimits Rules = Unit {0}
 IsWithinLimits (Solve mode) = Unit {0}
 IsWithinLimits (Make seed size) = (seed ≤ MOST_SEED) × (1 ≤ size) × (size ≤ MOST_SIZE)
 IsWithinLimits (Report what) = IsReportWithin what
+IsWithinLimits Session = Unit {0}

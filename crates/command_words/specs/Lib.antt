@@ -1,3 +1,4 @@
+pub mod Chairs
 pub mod Commands
 pub mod Hyphens
 pub mod Parsers

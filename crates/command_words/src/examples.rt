@@ -2,7 +2,7 @@
 
 ghost use Rattle.std.specs.Prelude.{◌≡◌, ◌∷◌, [], None, Some, codes};
 ghost use Rattle.command_words.specs.Commands.{command_of};
-ghost use Rattle.command_words.specs.declared.words.Command.TheVariants.{Make, Report};
+ghost use Rattle.command_words.specs.declared.words.Command.TheVariants.{Make, Report, Session};
 ghost use Rattle.reports.specs.declared.kinds.Report.TheVariants.{Institutions, Loads, Papers, Shares, Ticket};
 
 /// Words that ask for a made conference, and words that are near to them.
@@ -34,4 +34,21 @@ pub fn worked_reports()
     ensures a_number_more { command_of (codes "report" ∷ codes "shares" ∷ codes "7" ∷ []) ≡ None }
     ensures no_report { command_of (codes "report" ∷ []) ≡ None }
     ensures unknown { command_of (codes "report" ∷ codes "share" ∷ []) ≡ None }
+{}
+
+/// Words that ask for a session, and words that are near to them.
+#[tactic(auto, unfolding(desk_keeper::specs::Names::is_chair_name))]
+pub fn worked_sessions()
+    ensures one { command_of (codes "session" ∷ codes "ann" ∷ []) ≡ Some Session }
+    ensures two { command_of (codes "session" ∷ codes "ann" ∷ codes "bob" ∷ []) ≡ Some Session }
+    // Words of other commands may name chairs.
+    ensures named_as_commands { command_of (codes "session" ∷ codes "session" ∷ codes "help" ∷ codes "1" ∷ []) ≡ Some Session }
+    ensures sixteen { command_of (codes "session" ∷ codes "a" ∷ codes "b" ∷ codes "c" ∷ codes "d" ∷ codes "e" ∷ codes "f" ∷ codes "g" ∷ codes "h" ∷ codes "i" ∷ codes "j" ∷ codes "k" ∷ codes "l" ∷ codes "m" ∷ codes "n" ∷ codes "o" ∷ codes "p" ∷ []) ≡ Some Session }
+    ensures seventeen { command_of (codes "session" ∷ codes "a" ∷ codes "b" ∷ codes "c" ∷ codes "d" ∷ codes "e" ∷ codes "f" ∷ codes "g" ∷ codes "h" ∷ codes "i" ∷ codes "j" ∷ codes "k" ∷ codes "l" ∷ codes "m" ∷ codes "n" ∷ codes "o" ∷ codes "p" ∷ codes "q" ∷ []) ≡ None }
+    ensures none { command_of (codes "session" ∷ []) ≡ None }
+    ensures twice { command_of (codes "session" ∷ codes "ann" ∷ codes "bob" ∷ codes "ann" ∷ []) ≡ None }
+    ensures a_comma { command_of (codes "session" ∷ codes "ann,bob" ∷ []) ≡ None }
+    ensures a_space { command_of (codes "session" ∷ codes "ann bob" ∷ []) ≡ None }
+    ensures a_hyphen { command_of (codes "session" ∷ codes "-ann" ∷ []) ≡ None }
+    ensures empty { command_of (codes "session" ∷ codes "" ∷ []) ≡ None }
 {}

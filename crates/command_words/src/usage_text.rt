@@ -7,5 +7,5 @@ ghost use Rattle.command_words.specs.Usage.{usage_text};
 pub fn usage() -> &'static [u8]
     ensures { result.now ≡ usage_text }
 {
-    b"usage: matcher check\n       matcher rules\n       matcher solve whole|fair\n       matcher report shares|loads|papers|institutions\n       matcher report ticket NUMBER\n       matcher make SEED SIZE\n"
+    b"usage: matcher check\n       matcher rules\n       matcher solve whole|fair\n       matcher session CHAIR...\n       matcher report shares|loads|papers|institutions\n       matcher report ticket NUMBER\n       matcher make SEED SIZE\n"
 }

@@ -1,10 +1,12 @@
 // The command that words ask for.
-ghost use Rattle.std.specs.Prelude.{◌≡◌, map, None, Some, [], Err, IfOk, unwrap_or, codes};
+ghost use Rattle.std.specs.Prelude.{◌≡◌, map, drop, None, Some, [], Err, Ok, IfOk, unwrap_or, codes};
 ghost use Rattle.std.specs.String.{string_bytes};
 ghost use Rattle.clap.specs.Words.{all_of, rows_of, found_of};
-ghost use Rattle.command_words.specs.Commands.{command_of, command_of_two, command_of_three, command_of_word, make_of, mode_of_word, report_of_ticket, report_of_word, IsWithinLimits};
+ghost use Rattle.command_words.specs.Chairs.{AreChairs};
+ghost use Rattle.command_words.specs.Commands.{command_of, command_of_few, command_of_plain, command_of_three, command_of_two, command_of_word, command_of_words, make_of, mode_of_word, report_of_ticket, report_of_word, session_of, IsWithinLimits};
 ghost use Rattle.command_words.specs.Hyphens.{is_plain, are_plain};
 
+use crate::chairs::may_be_chairs;
 use crate::found::find_words;
 use clap::ArgMatches;
 use match_rules::Mode;
@@ -39,6 +41,8 @@ pub enum Command {
     },
     /// A report of a certified lottery.
     Report(Report),
+    /// The desk over a stream of requests. Its chairs are the words behind the first.
+    Session,
 }
 
 /// Why words were not read.
@@ -149,30 +153,60 @@ fn command_of_three(word: &str, other: &str, third: &str) -> Option<Command>
     }
 }
 
-fn command_of(words: &[&str]) -> Option<Command>
-    ensures { result ≡ command_of (map (λ word. word.now) words.now) }
+fn session_of(chairs: &[&str]) -> Option<Command>
+    ensures { result ≡ session_of (map (λ word. word.now) chairs.now) }
 {
-    match words {
-        [word] => command_of_word(word),
-        [word, other] => command_of_two(word, other),
-        [word, other, third] => command_of_three(word, other, third),
+    if may_be_chairs(chairs) {
+        Some(Command::Session)
+    } else {
+        None
+    }
+}
+
+fn command_of_few(word: &str, others: &[&str]) -> Option<Command>
+    ensures { result ≡ command_of_few word.now (map (λ word. word.now) others.now) }
+{
+    match others {
+        [] => command_of_word(word),
+        [other] => command_of_two(word, other),
+        [other, third] => command_of_three(word, other, third),
         _ => None,
     }
 }
 
+fn command_of_words(word: &str, others: &[&str]) -> Option<Command>
+    ensures { result ≡ command_of_words word.now (map (λ word. word.now) others.now) }
+{
+    match word {
+        "session" => session_of(others),
+        _ => command_of_few(word, others),
+    }
+}
+
+fn command_of_plain(words: &[&str]) -> Option<Command>
+    ensures { result ≡ command_of_plain (map (λ word. word.now) words.now) }
+{
+    match words {
+        [] => None,
+        [word, others @ ..] => command_of_words(word, others),
+    }
+}
+
 fn command_found(matches: &ArgMatches<'_>) -> Option<Command>
-    ensures { result ≡ command_of (unwrap_or (all_of (codes "word") (rows_of (found_of matches.now))) []) }
+    ensures { result ≡ command_of_plain (unwrap_or (all_of (codes "word") (rows_of (found_of matches.now))) []) }
 {
     match matches.get_strs("word") {
-        Some(words) => command_of(words),
+        Some(words) => command_of_plain(words),
         None => None,
     }
 }
 
-/// The command that the words behind the program's name ask for. No word may be shortened, and there are no options.
+/// The command that the words behind the program's name ask for. No word may be shortened, and there are no options. The words behind
+/// `session` are 1 to 16 names of chairs, no two of them equal.
 pub fn read_words(alloc: Global, words: &[String]) -> Result<Command, WordsFault>
     ensures taken { IfOk result (λ command. command_of (map string_bytes words.now) ≡ Some command) }
     ensures within { IfOk result IsWithinLimits }
+    ensures chairs { result ≡ Ok Command.Session → AreChairs (drop 1 (map string_bytes words.now)) }
     ensures refused { result ≡ Err WordsFault.Usage → command_of (map string_bytes words.now) ≡ None }
 {
     if !are_plain(words) {

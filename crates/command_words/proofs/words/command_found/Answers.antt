@@ -12,7 +12,7 @@ pub returns-in-Some : goal.returns-in-Some
 returns-in-Some c =
     let is : all_of (codes "word") (rows_of (found_of c.args.matches.now)) ≡ words_in (Some c.in-Some.words) =
     sym (c.get_strs.ensures ∙ raw_values-rows (found_of c.args.matches.now) (codes "word")) ∙ ap words_in c.in-Some.is in
-    rw is c.command_of.ensures
+    rw is c.command_of_plain.ensures
 
 pub returns-in-None : goal.returns-in-None
 returns-in-None c =
