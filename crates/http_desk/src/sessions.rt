@@ -7,6 +7,7 @@ ghost use Rattle.desk_keeper.specs.Keepers.{Tells};
 ghost use Rattle.desk_history.specs.Histories.{held};
 ghost use Rattle.desk_history.specs.Opened.{IsLegal};
 ghost use Rattle.desk_history.specs.Rows.{rows};
+ghost use Rattle.desk_laws.specs.Best.{EachBest};
 ghost use Rattle.desk_laws.specs.Evidence.{EachPublished};
 ghost use Rattle.desk_routes.specs.declared.places.Routes.TheVariants.{ChairsAndWorker};
 ghost use Rattle.http_stream.specs.declared.intake.TheConstants.{MOST_STREAM_BYTES};
@@ -75,10 +76,11 @@ pub fn session<S: Source, K: Sink, P: Keeper>(
     ensures told { Tells (P.rows keeper.new) (rows desk.new.history) }
     ensures untold { IsSome (P.rows keeper.new) → IsSome (P.rows keeper.old) }
 
-    // The chairs stay, the history is legal, and each publication is of a certified lottery.
+    // The chairs stay, the history is legal, and each publication is of a certified lottery, which is best under the rules of its edition.
     ensures chairs { desk.new.chairs ≡ desk.old.chairs }
     ensures legal { IsLegal desk.new.chairs desk.new.history }
     ensures published { EachPublished desk.new.history }
+    ensures best { EachBest desk.new.history }
 
     // Each request has a reply, or the stream ended for another cause.
     ensures answered { result ≢ StreamEnd.Spent }

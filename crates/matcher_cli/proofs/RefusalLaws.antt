@@ -11,7 +11,7 @@ use Rattle.reports.specs.declared.kinds.Report.{Report}
 use Rattle.text_lines.specs.declared.fault.TextFault.{TextFault}
 use Rattle.text_lines.specs.declared.fault.TextFault.TheVariants as faults
 use Rattle.matcher_cli.specs.declared.status.Status.{Status}
-use Rattle.matcher_cli.specs.declared.status.Status.TheVariants.{Done, Broken, Infeasible, Usage, ReadFault, WriteFault, Refused, Memory}
+use Rattle.matcher_cli.specs.declared.status.Status.TheVariants.{Done, Broken, Infeasible, Usage, KeeperFault, Damaged, ReadFault, WriteFault, Refused, Memory}
 use Rattle.matcher_cli.specs.Lines.{fault_line}
 use Rattle.matcher_cli.specs.Reporting.{IsReportedExactly, Reports}
 use Rattle.matcher_cli.specs.Verdicts.{Checks, FrontWritten, IsExact, IsFaultOf, IsNoText, IsRefusalTold, Written}
@@ -48,7 +48,11 @@ fault_told Broken refusal fault old new is (inr e) written front = absurd cc
 fault_told Infeasible refusal fault old new is (inl e) written front = absurd cc
 fault_told Infeasible refusal fault old new is (inr e) written front = absurd cc
 fault_told Usage refusal fault old new is (inl e) written front = absurd cc
+fault_told KeeperFault refusal fault old new is (inl e) written front = absurd cc
+fault_told Damaged refusal fault old new is (inl e) written front = absurd cc
 fault_told Usage refusal fault old new is (inr e) written front = absurd cc
+fault_told KeeperFault refusal fault old new is (inr e) written front = absurd cc
+fault_told Damaged refusal fault old new is (inr e) written front = absurd cc
 fault_told ReadFault refusal fault old new is (inl e) written front = absurd cc
 fault_told ReadFault refusal fault old new is (inr e) written front = absurd cc
 fault_told WriteFault refusal fault old new is either written front = (fault, is, front refl)
@@ -62,6 +66,8 @@ told_checks Done bytes refusal old new only refused told = absurd told
 told_checks Broken bytes refusal old new only refused told = absurd told
 told_checks Infeasible bytes refusal old new only refused told = told
 told_checks Usage bytes refusal old new only refused told = told
+told_checks KeeperFault bytes refusal old new only refused told = told
+told_checks Damaged bytes refusal old new only refused told = told
 told_checks ReadFault bytes refusal old new only refused told = tt
 told_checks WriteFault bytes refusal old new only refused (fault, is, written) = let parts = named bytes refusal fault is only refused in inr (fault, parts.0, parts.1, written)
 told_checks Refused bytes refusal old new only refused (fault, is, written) = let parts = named bytes refusal fault is only refused in (fault, parts.0, parts.1, written)
@@ -73,6 +79,8 @@ told_exact Done bytes refusal old new only refused told = absurd told
 told_exact Broken bytes refusal old new only refused told = absurd told
 told_exact Infeasible bytes refusal old new only refused told = absurd told
 told_exact Usage bytes refusal old new only refused told = absurd told
+told_exact KeeperFault bytes refusal old new only refused told = absurd told
+told_exact Damaged bytes refusal old new only refused told = absurd told
 told_exact ReadFault bytes refusal old new only refused told = fault_exact bytes ReadFault tt
 told_exact WriteFault bytes refusal old new only refused told = fault_exact bytes WriteFault tt
 told_exact Refused bytes refusal old new only refused (fault, is, written) =
@@ -91,6 +99,8 @@ told_reports Done what bytes refusal old new only refused told = absurd told
 told_reports Broken what bytes refusal old new only refused told = absurd told
 told_reports Infeasible what bytes refusal old new only refused told = absurd told
 told_reports Usage what bytes refusal old new only refused told = told
+told_reports KeeperFault what bytes refusal old new only refused told = told
+told_reports Damaged what bytes refusal old new only refused told = told
 told_reports ReadFault what bytes refusal old new only refused told = tt
 told_reports WriteFault what bytes refusal old new only refused (fault, is, written) = let parts = named bytes refusal fault is only refused in inr (fault, parts.0, parts.1, written)
 told_reports Refused what bytes refusal old new only refused (fault, is, written) = let parts = named bytes refusal fault is only refused in (fault, parts.0, parts.1, written)
@@ -102,6 +112,8 @@ told_reported Done bytes refusal old new only refused told = absurd told
 told_reported Broken bytes refusal old new only refused told = absurd told
 told_reported Infeasible bytes refusal old new only refused told = absurd told
 told_reported Usage bytes refusal old new only refused told = absurd told
+told_reported KeeperFault bytes refusal old new only refused told = absurd told
+told_reported Damaged bytes refusal old new only refused told = absurd told
 told_reported ReadFault bytes refusal old new only refused told = fault_reported bytes ReadFault tt
 told_reported WriteFault bytes refusal old new only refused told = fault_reported bytes WriteFault tt
 told_reported Refused bytes refusal old new only refused (fault, is, written) =

@@ -11,7 +11,7 @@ use Rattle.reports.specs.declared.kinds.Report.TheVariants.{Shares, Loads, Paper
 use Rattle.reports.specs.Reports.{IsAskedOf}
 use Rattle.text_lines.specs.declared.fault.TextFault.{TextFault}
 use Rattle.matcher_cli.specs.declared.status.Status.{Status}
-use Rattle.matcher_cli.specs.declared.status.Status.TheVariants.{Done, Broken, Infeasible, Usage, ReadFault, WriteFault, Refused, Memory}
+use Rattle.matcher_cli.specs.declared.status.Status.TheVariants.{Done, Broken, Infeasible, Usage, KeeperFault, Damaged, ReadFault, WriteFault, Refused, Memory}
 use Rattle.matcher_cli.specs.Reporting.{IsReportedExactly, Reports, ReportsAnswer}
 use Rattle.matcher_cli.specs.Solving.{status_of}
 use Rattle.matcher_cli.specs.Verdicts.{IsButForFaults, IsFault, IsFaultOf, IsTextOf}
@@ -34,6 +34,8 @@ answer_reports Done what bytes rules answer old new text reported = (rules, answ
 answer_reports Broken what bytes rules answer old new text reported = (rules, answer, text, reported)
 answer_reports Infeasible what bytes rules answer old new text reported = (rules, answer, text, reported)
 answer_reports Usage what bytes rules answer old new text reported = reported
+answer_reports KeeperFault what bytes rules answer old new text reported = reported
+answer_reports Damaged what bytes rules answer old new text reported = reported
 answer_reports ReadFault what bytes rules answer old new text reported = tt
 answer_reports WriteFault what bytes rules answer old new text reported = inl (rules, answer, text, reported)
 answer_reports Refused what bytes rules answer old new text reported = absurd reported
@@ -76,6 +78,8 @@ answer_exact Broken what bytes rules answer old new text right only reported = r
 }
 answer_exact Infeasible what bytes rules answer old new text right only (blocked, is, holds, written) = valid_exact Infeasible bytes rules answer text right only holds (sym (ap status_of is))
 answer_exact Usage what bytes rules answer old new text right only reported = absurd reported
+answer_exact KeeperFault what bytes rules answer old new text right only reported = absurd reported
+answer_exact Damaged what bytes rules answer old new text right only reported = absurd reported
 answer_exact ReadFault what bytes rules answer old new text right only reported = absurd reported
 answer_exact WriteFault what bytes rules answer old new text right only reported = fault_reported bytes WriteFault tt
 answer_exact Refused what bytes rules answer old new text right only reported = absurd reported

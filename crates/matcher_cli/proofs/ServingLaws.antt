@@ -7,7 +7,7 @@ use Rattle.editions.specs.declared.venue.Edited.{Edited}
 use Rattle.editions.specs.Answers.{IsEdited}
 use Rattle.editions.specs.Loads.{IsLoadAnswer, venue_in}
 use Rattle.matcher_cli.specs.declared.status.Status.{Status}
-use Rattle.matcher_cli.specs.declared.status.Status.TheVariants.{Done, Broken, Infeasible, Usage, ReadFault, WriteFault, Refused, Memory}
+use Rattle.matcher_cli.specs.declared.status.Status.TheVariants.{Done, Broken, Infeasible, Usage, KeeperFault, Damaged, ReadFault, WriteFault, Refused, Memory}
 use Rattle.matcher_cli.specs.FolderRules.{Answered, HasLine, IsFaultTold, IsServedExactly, RulesServed, rules_in, rules_of_loaded, within_limits}
 use Rattle.matcher_cli.specs.Verdicts.{IsFault}
 
@@ -31,6 +31,8 @@ told_served Done files fault old new answer told = absurd told
 told_served Broken files fault old new answer told = told
 told_served Infeasible files fault old new answer told = told
 told_served Usage files fault old new answer told = told
+told_served KeeperFault files fault old new answer told = told
+told_served Damaged files fault old new answer told = told
 told_served ReadFault files fault old new answer told = tt
 told_served WriteFault files fault old new answer told = rw (refused_rules files fault told.0 answer) told.1
 told_served Refused files fault old new answer told = (fault, refused_rules files fault told.0 answer, told.1)
@@ -46,6 +48,8 @@ served_exact Done files old new (rules, is, written) = rw is (inl refl)
 served_exact Broken files old new served = absurd served
 served_exact Infeasible files old new served = absurd served
 served_exact Usage files old new served = absurd served
+served_exact KeeperFault files old new served = absurd served
+served_exact Damaged files old new served = absurd served
 served_exact ReadFault files old new served = for_fault ReadFault (rules_in files) tt
 served_exact WriteFault files old new served = for_fault WriteFault (rules_in files) tt
 served_exact Refused files old new (fault, is, written) = rw is (inl refl)

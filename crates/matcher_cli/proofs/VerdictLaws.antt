@@ -4,7 +4,7 @@ use Rattle.match_rules.specs.declared.answer.Answer.{Answer}
 use Rattle.match_rules.specs.Rules.{RulesValue}
 use Rattle.publication.specs.Checks.{Holds}
 use Rattle.matcher_cli.specs.declared.status.Status.{Status}
-use Rattle.matcher_cli.specs.declared.status.Status.TheVariants.{Done, Broken, Infeasible, Usage, ReadFault, WriteFault, Refused, Memory}
+use Rattle.matcher_cli.specs.declared.status.Status.TheVariants.{Done, Broken, Infeasible, Usage, KeeperFault, Damaged, ReadFault, WriteFault, Refused, Memory}
 use Rattle.matcher_cli.specs.Verdicts.{IsTextOf, Judges, Checks, IsFault, IsExact, IsFaultOf}
 use Rattle.text_lines.specs.declared.fault.TextFault.{TextFault}
 
@@ -15,6 +15,8 @@ judges_checks Done bytes rules answer old new text judged = (rules, answer, text
 judges_checks Broken bytes rules answer old new text judged = (rules, answer, text, judged)
 judges_checks Infeasible bytes rules answer old new text judged = judged
 judges_checks Usage bytes rules answer old new text judged = judged
+judges_checks KeeperFault bytes rules answer old new text judged = judged
+judges_checks Damaged bytes rules answer old new text judged = judged
 judges_checks ReadFault bytes rules answer old new text judged = tt
 judges_checks WriteFault bytes rules answer old new text judged = inl (rules, answer, text, judged)
 judges_checks Refused bytes rules answer old new text judged = absurd judged
@@ -64,6 +66,8 @@ judges_exact Broken bytes rules answer old new text right only judged = record {
 }
 judges_exact Infeasible bytes rules answer old new text right only judged = absurd judged
 judges_exact Usage bytes rules answer old new text right only judged = absurd judged
+judges_exact KeeperFault bytes rules answer old new text right only judged = absurd judged
+judges_exact Damaged bytes rules answer old new text right only judged = absurd judged
 judges_exact ReadFault bytes rules answer old new text right only judged = absurd judged
 judges_exact WriteFault bytes rules answer old new text right only judged = fault_exact bytes WriteFault tt
 judges_exact Refused bytes rules answer old new text right only judged = absurd judged

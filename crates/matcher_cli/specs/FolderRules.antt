@@ -9,7 +9,7 @@ use Rattle.editions.specs.Loads.{Loaded, venue_in}
 use Rattle.venue_rules.specs.VenueRules.{rules_of}
 use Rattle.publication.specs.RulesText.{rules_text}
 use Rattle.matcher_cli.specs.declared.status.Status.{Status}
-use Rattle.matcher_cli.specs.declared.status.Status.TheVariants.{Done, Broken, Infeasible, Usage, ReadFault, WriteFault, Refused, Memory}
+use Rattle.matcher_cli.specs.declared.status.Status.TheVariants.{Done, Broken, Infeasible, Usage, KeeperFault, Damaged, ReadFault, WriteFault, Refused, Memory}
 use Rattle.matcher_cli.specs.Refusals.{refusal_text}
 use Rattle.matcher_cli.specs.Verdicts.{FrontWritten, IsButForFaults, Written}
 
@@ -40,6 +40,8 @@ RulesServed Done files old new = (rules : RulesValue) × (rules_in files ≡ Ok 
 RulesServed Broken files old new = ⊥
 RulesServed Infeasible files old new = ⊥
 RulesServed Usage files old new = ⊥
+RulesServed KeeperFault files old new = ⊥
+RulesServed Damaged files old new = ⊥
 RulesServed ReadFault files old new = Unit {0}
 RulesServed WriteFault files old new = FrontWritten old new (text_due (rules_in files))
 RulesServed Refused files old new = (fault : LoadFault) × (rules_in files ≡ Err fault) × Written old new (refusal_text fault)
@@ -63,6 +65,8 @@ IsFaultTold Done fault old new = ⊥
 IsFaultTold Broken fault old new = ⊥
 IsFaultTold Infeasible fault old new = ⊥
 IsFaultTold Usage fault old new = ⊥
+IsFaultTold KeeperFault fault old new = ⊥
+IsFaultTold Damaged fault old new = ⊥
 IsFaultTold ReadFault fault old new = fault ≡ load.Folder
 IsFaultTold WriteFault fault old new = HasLine fault × FrontWritten old new (refusal_text fault)
 IsFaultTold Refused fault old new = HasLine fault × Written old new (refusal_text fault)

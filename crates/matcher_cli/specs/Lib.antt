@@ -7,3 +7,4 @@ pub mod Reporting
 pub mod Solving
 pub mod Verdicts
 pub mod Words
+pub mod Serving

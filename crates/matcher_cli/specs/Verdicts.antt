@@ -13,7 +13,7 @@ use Rattle.publication.specs.declared.refusal.ReadRefusal.TheVariants as refusal
 use Rattle.text_lines.specs.declared.fault.TextFault.{TextFault}
 use Rattle.text_lines.specs.FirstFault.{HasFault}
 use Rattle.matcher_cli.specs.declared.status.Status.{Status}
-use Rattle.matcher_cli.specs.declared.status.Status.TheVariants.{Done, Broken, Infeasible, Usage, ReadFault, WriteFault, Refused, Memory}
+use Rattle.matcher_cli.specs.declared.status.Status.TheVariants.{Done, Broken, Infeasible, Usage, KeeperFault, Damaged, ReadFault, WriteFault, Refused, Memory}
 use Rattle.matcher_cli.specs.Lines.{valid_line, broken_line, fault_line}
 
 -- bytes that are the text of rules and of an answer to them
@@ -49,6 +49,8 @@ Judges Done rules answer old new = Holds rules answer × Written old new (valid_
 Judges Broken rules answer old new = (broken : Break) × IsBrokenBy rules answer broken × Written old new (broken_line broken)
 Judges Infeasible rules answer old new = ⊥
 Judges Usage rules answer old new = ⊥
+Judges KeeperFault rules answer old new = ⊥
+Judges Damaged rules answer old new = ⊥
 Judges ReadFault rules answer old new = ⊥
 Judges WriteFault rules answer old new = FrontWritten old new (judged_line rules answer)
 Judges Refused rules answer old new = ⊥
@@ -74,6 +76,8 @@ Checks Done bytes old new = (rules : RulesValue) × (answer : Answer) × IsTextO
 Checks Broken bytes old new = (rules : RulesValue) × (answer : Answer) × IsTextOf bytes rules answer × Judges Broken rules answer old new
 Checks Infeasible bytes old new = ⊥
 Checks Usage bytes old new = ⊥
+Checks KeeperFault bytes old new = ⊥
+Checks Damaged bytes old new = ⊥
 Checks ReadFault bytes old new = Unit {0}
 Checks WriteFault bytes old new = FrontDue bytes old new
 Checks Refused bytes old new = (fault : TextFault) × IsNoText bytes × IsFaultOf fault bytes × Written old new (fault_line fault)
@@ -85,6 +89,8 @@ IsRefusalTold Done refusal old new = ⊥
 IsRefusalTold Broken refusal old new = ⊥
 IsRefusalTold Infeasible refusal old new = ⊥
 IsRefusalTold Usage refusal old new = ⊥
+IsRefusalTold KeeperFault refusal old new = ⊥
+IsRefusalTold Damaged refusal old new = ⊥
 IsRefusalTold ReadFault refusal old new = refusal ≡ refusals.ReadFault
 IsRefusalTold WriteFault refusal old new = (fault : TextFault) × (refusal ≡ refusal_of_fault fault) × FrontWritten old new (fault_line fault)
 IsRefusalTold Refused refusal old new = (fault : TextFault) × (refusal ≡ refusal_of_fault fault) × Written old new (fault_line fault)
@@ -96,6 +102,8 @@ IsFault Done = ⊥
 IsFault Broken = ⊥
 IsFault Infeasible = ⊥
 IsFault Usage = ⊥
+IsFault KeeperFault = ⊥
+IsFault Damaged = ⊥
 IsFault ReadFault = Unit {0}
 IsFault WriteFault = Unit {0}
 IsFault Refused = ⊥

@@ -41,6 +41,8 @@ pub(crate) fn check_text<S: Source, K: Sink>(alloc: Global, source: &mut S, sink
     ensures exact { IsSome (S.left source.new) → IsExact (told (S.left source.old)) result }
     ensures end { IsSome (S.left source.new) → (result ≡ Status.Done) ⊎ (result ≡ Status.Broken) → told (S.left source.new) ≡ [] }
     ensures usage { result ≢ Status.Usage }
+    ensures unkept { result ≢ Status.KeeperFault }
+    ensures undamaged { result ≢ Status.Damaged }
     ensures read_fault { result ≡ Status.ReadFault → Rose (S.faults source.old) (S.faults source.new) }
     ensures write_fault { result ≡ Status.WriteFault → Rose (K.faults sink.old) (K.faults sink.new) }
     ensures quiet { (result ≡ Status.ReadFault) ⊎ (result ≡ Status.Memory) → K.taken sink.new ≡ K.taken sink.old }

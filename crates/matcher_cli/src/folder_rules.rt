@@ -46,6 +46,8 @@ pub(crate) fn serve_rules<F: Folder, K: Sink>(alloc: Global, folder: &mut F, sin
     ensures served { IsSome (F.files folder.new) → RulesServed result (told_files (F.files folder.old)) (told (K.taken sink.old)) (K.taken sink.new) }
     ensures exact { IsSome (F.files folder.new) → IsServedExactly (rules_in (told_files (F.files folder.old))) result }
     ensures usage { result ≢ Status.Usage }
+    ensures unkept { result ≢ Status.KeeperFault }
+    ensures undamaged { result ≢ Status.Damaged }
     ensures read_fault { result ≡ Status.ReadFault → Rose (F.faults folder.old) (F.faults folder.new) }
     ensures write_fault { result ≡ Status.WriteFault → Rose (K.faults sink.old) (K.faults sink.new) }
     ensures quiet { (result ≡ Status.ReadFault) ⊎ (result ≡ Status.Memory) → K.taken sink.new ≡ K.taken sink.old }

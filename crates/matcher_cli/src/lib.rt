@@ -9,6 +9,7 @@ mod making;
 mod matching;
 mod refusals;
 mod reporting;
+mod serving;
 mod solving;
 mod status;
 mod sure_folder;

@@ -1,5 +1,6 @@
 // The lines that the check writes.
 ghost use Rattle.std.specs.Prelude.{◌≡◌, ◌≤◌, length, codes};
+ghost use Rattle.matcher_cli.specs.Serving.{damage_line};
 ghost use Rattle.matcher_cli.specs.Lines.{level_words, lottery_line, valid_line, broken_line, one_number, two_numbers, three_numbers, one_signed, two_signed, line_code_word, wrong_line, fault_line};
 
 use match_rules::{Answer, Break, Level};
@@ -241,4 +242,12 @@ pub fn valid_line(answer: &Answer) -> LineBuffer
             blocked.room,
         ),
     }
+}
+
+/// The line of a damaged row, by its place from 0.
+#[tactic(auto, unfolding(crate::specs::Serving::damage_line))]
+pub(crate) fn damage_line(place: u64) -> LineBuffer
+    ensures { result ≡ damage_line place }
+{
+    one_number(b"damaged row ", place)
 }

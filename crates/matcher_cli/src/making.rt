@@ -126,6 +126,8 @@ pub(crate) fn serve_making<K: Sink>(alloc: Global, seed: u32, size: u32, sink: &
     ensures makes { Makes result seed size (made_rules seed size) (told (K.taken sink.old)) (K.taken sink.new) }
     ensures exact { IsSolvedExactly (made_rules seed size) result }
     ensures usage { result ≢ Status.Usage }
+    ensures unkept { result ≢ Status.KeeperFault }
+    ensures undamaged { result ≢ Status.Damaged }
     ensures unread { result ≢ Status.ReadFault }
     ensures write_fault { result ≡ Status.WriteFault → Rose (K.faults sink.old) (K.faults sink.new) }
     ensures quiet { result ≡ Status.Memory → K.taken sink.new ≡ K.taken sink.old }

@@ -3,10 +3,13 @@ ghost use Rattle.std.specs.Prelude.{◌≡◌, ◌≢◌, ◌⊎◌, ℕ, [], Is
 ghost use Rattle.edge_io.specs.Counts.{Rose};
 ghost use Rattle.edge_io.specs.Files.{told_files};
 ghost use Rattle.edge_io.specs.Told.{told};
+ghost use Rattle.desk_keeper.specs.Keepers.{told_rows};
+ghost use Rattle.desk_history.specs.Opened.{IsDamaged};
 ghost use Rattle.command_words.specs.Usage.{usage_text};
 ghost use Rattle.matcher_cli.specs.FolderRules.{IsServedExactly, RulesServed, rules_in};
 ghost use Rattle.matcher_cli.specs.Making.{Makes, made_rules};
 ghost use Rattle.matcher_cli.specs.Reporting.{IsReportedExactly, Reports};
+ghost use Rattle.matcher_cli.specs.Serving.{Outside, Sessions, chairs_in};
 ghost use Rattle.matcher_cli.specs.Solving.{IsSolvedExactly, Solves};
 ghost use Rattle.matcher_cli.specs.Words.{Asks, AsksNothing};
 ghost use Rattle.matcher_cli.specs.Verdicts.{IsExact, Checks, FrontWritten, Written};
@@ -15,9 +18,11 @@ use crate::checking::check_text;
 use crate::folder_rules::serve_rules;
 use crate::making::serve_making;
 use crate::reporting::serve_report;
+use crate::serving::serve_session;
 use crate::solving::serve_solution;
 use crate::status::Status;
 use command_words::{Command, WordsFault, read_words, usage};
+use desk_keeper::Keeper;
 use edge_io::{Folder, Sink, Source, write_all};
 use match_rules::Mode;
 use reports::Report;
@@ -44,13 +49,16 @@ fn refuse_words<K: Sink>(sink: &mut K) -> Status
 /// `solve whole` it writes these rules and a best lottery of them with its evidence, or the cut that shows that none fits; with
 /// the words `solve fair` the same under the greatest threshold of the scores at which some lottery fits. With the words
 /// `make SEED SIZE` it makes the files of a conference in memory, solves and checks their rules as `solve whole`, and writes one
-/// line of what they have and of the total; its memory is that of these files and of the solution.
-pub fn matcher<S: Source, K: Sink, F: Folder>(
+/// line of what they have and of the total; its memory is that of these files and of the solution. With the words `session CHAIR...`
+/// it opens the desk of these chairs from the rows of the keeper and serves the requests of the source into the sink, worker steps
+/// among them; its memory is that of the history, of the rules of the present edition and of one request.
+pub fn matcher<S: Source, K: Sink, F: Folder, P: Keeper>(
     alloc: Global,
     words: &[String],
     source: &mut S,
     sink: &mut K,
     folder: &mut F,
+    keeper: &mut P,
 ) -> Status
     // Other words are refused, and they alone.
     ensures usage { result ≡ Status.Usage → AsksNothing words.now }
@@ -97,14 +105,28 @@ pub fn matcher<S: Source, K: Sink, F: Folder>(
     ensures exact_makes { (seed size : ℕ) → Asks words.now (Command.Make seed size) → IsSolvedExactly (made_rules seed size) result }
     ensures made_unread { (seed size : ℕ) → Asks words.now (Command.Make seed size) → result ≢ Status.ReadFault }
 
+    // A session, for every stream of requests, edits, worker steps and repeats: the desk of the words' chairs is opened from the keeper's
+    // rows, and serves what the source gives; the keeper then has the rows of what was done, and each publication belongs to one
+    // edition and is of a lottery that is best under its rules: its assignments meet them, each pair has exactly its share, never
+    // above its cap, no lottery has a greater score, and in the mode fair the threshold is the greatest at which some lottery fits.
+    // 8 comes exactly where a row is damaged, with the line of the first, and 5 where the keeper failed at the opening; then nothing was read.
+    ensures sessions { Asks words.now Command.Session → Sessions result (chairs_in words.now) (record { rows = P.rows keeper.old; faults = P.faults keeper.old; given = S.given source.old; left = S.left source.old; taken = K.taken sink.old }) (record { rows = P.rows keeper.new; faults = P.faults keeper.new; given = S.given source.new; left = S.left source.new; taken = K.taken sink.new }) }
+    ensures damage { Asks words.now Command.Session → (place : ℕ) → IsSome (P.rows keeper.new) → IsDamaged (told_rows (P.rows keeper.old)) place → (result ≡ Status.Damaged) ⊎ ((result ≡ Status.WriteFault) ⊎ ((result ≡ Status.KeeperFault) ⊎ (result ≡ Status.Memory))) }
+    ensures session_fault { Asks words.now Command.Session → result ≡ Status.ReadFault → Rose (S.faults source.old) (S.faults source.new) }
+
+    // Other words ask nothing of the keeper.
+    ensures keeper_fault { result ≡ Status.KeeperFault → Rose (P.faults keeper.old) (P.faults keeper.new) }
+    ensures undamaged { ¬ (Asks words.now Command.Session) → result ≢ Status.Damaged }
+    ensures keeper_kept { ¬ (Asks words.now Command.Session) → keeper.new ≡ keeper.old }
+
     ensures write_fault { result ≡ Status.WriteFault → Rose (K.faults sink.old) (K.faults sink.new) }
 
-    // `check` and `report` alone read from the source, and `rules` and `solve` alone from the folder; `make` reads neither.
-    ensures source_kept { ¬ (Asks words.now Command.Check) → ((what : Report) → ¬ (Asks words.now (Command.Report what))) → source.new ≡ source.old }
+    // `check`, `report` and `session` alone read from the source, and `rules` and `solve` alone from the folder; `make` reads neither.
+    ensures source_kept { ¬ (Asks words.now Command.Check) → ((what : Report) → ¬ (Asks words.now (Command.Report what))) → ¬ (Asks words.now Command.Session) → source.new ≡ source.old }
     ensures folder_kept { ¬ (Asks words.now Command.Rules) → ((mode : Mode) → ¬ (Asks words.now (Command.Solve mode))) → folder.new ≡ folder.old }
 
-    // Nothing is written where reading failed or memory was wanting.
-    ensures quiet { (result ≡ Status.ReadFault) ⊎ (result ≡ Status.Memory) → K.taken sink.new ≡ K.taken sink.old }
+    // Nothing is written where reading failed or memory was wanting, but by a session.
+    ensures quiet { ¬ (Asks words.now Command.Session) → (result ≡ Status.ReadFault) ⊎ (result ≡ Status.Memory) → K.taken sink.new ≡ K.taken sink.old }
 {
     match read_words(alloc, words) {
         Ok(Command::Check) => check_text(alloc, source, sink),
@@ -112,6 +134,7 @@ pub fn matcher<S: Source, K: Sink, F: Folder>(
         Ok(Command::Solve(mode)) => serve_solution(alloc, mode, folder, sink),
         Ok(Command::Make { seed, size }) => serve_making(alloc, seed, size, sink),
         Ok(Command::Report(what)) => serve_report(alloc, what, source, sink),
+        Ok(Command::Session) => serve_session(alloc, words, source, sink, keeper),
         Err(WordsFault::Usage) => refuse_words(sink),
         Err(WordsFault::Memory) => Status::Memory,
     }

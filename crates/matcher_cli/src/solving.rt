@@ -101,6 +101,8 @@ pub(crate) fn serve_solution<F: Folder, K: Sink>(
     ensures solves { IsSome (F.files folder.new) → Solves result (told_files (F.files folder.old)) mode (told (K.taken sink.old)) (K.taken sink.new) }
     ensures exact { IsSome (F.files folder.new) → IsSolvedExactly (rules_in (told_files (F.files folder.old))) result }
     ensures usage { result ≢ Status.Usage }
+    ensures unkept { result ≢ Status.KeeperFault }
+    ensures undamaged { result ≢ Status.Damaged }
     ensures read_fault { result ≡ Status.ReadFault → Rose (F.faults folder.old) (F.faults folder.new) }
     ensures write_fault { result ≡ Status.WriteFault → Rose (K.faults sink.old) (K.faults sink.new) }
     ensures quiet { (result ≡ Status.ReadFault) ⊎ (result ≡ Status.Memory) → K.taken sink.new ≡ K.taken sink.old }

@@ -17,14 +17,18 @@ pub enum Status {
     ReadFault,
     /// Writing failed.
     WriteFault,
-    /// The input is no certificate, or the files make no rules.
+    /// The keeper failed where the desk was opened.
+    KeeperFault,
+    /// The input is no certificate, the files make no rules, or the stream ended with the refusal of what was no request.
     Refused,
     /// Memory was wanting.
     Memory,
+    /// The rows of the keeper are damaged: the line names the first from which no history follows.
+    Damaged,
 }
 
 impl Status {
-    /// The exit status: 0 to 4, 6 and 7. The number 5 is kept for a keeper's fault.
+    /// The exit status: 0 to 8.
     pub fn code(self) -> u8
         ensures { result ≡ code_of self }
     {
@@ -35,8 +39,10 @@ impl Status {
             Status::Usage => 2,
             Status::ReadFault => 3,
             Status::WriteFault => 4,
+            Status::KeeperFault => 5,
             Status::Refused => 6,
             Status::Memory => 7,
+            Status::Damaged => 8,
         }
     }
 }
