@@ -6,3 +6,4 @@ pub mod ReportingLaws
 pub mod ServingLaws
 pub mod SolvingLaws
 pub mod VerdictLaws
+pub mod SessionLaws
