@@ -1,5 +1,6 @@
 // The words of a case, with its input and its folder.
 
+use desk_keeper::SureKeeper;
 use edge_io::{DirFolder, MemoryFile, MemoryFolder, MemorySink, MemorySource};
 use matcher_cli::matcher;
 use std::alloc::{AllocError, Global};
@@ -66,7 +67,8 @@ fn status_of(alloc: Global, words: &[String], outside: &mut Outside) -> u8 {
         sink,
         folder,
     } = outside;
-    matcher(alloc, words, source, sink, folder).code()
+    let keeper = &mut SureKeeper::new(alloc);
+    matcher(alloc, words, source, sink, folder, keeper).code()
 }
 
 // Prints the status, and gives back what was written.
@@ -104,6 +106,7 @@ pub(crate) fn run_words_here(
         &mut source,
         &mut sink,
         &mut DirFolder::new(rt),
+        &mut SureKeeper::new(alloc),
     );
     println!(rt; "status {}", status.code())?;
     Ok(Vec::from_slice(alloc, sink.bytes())?)
