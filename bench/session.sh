@@ -13,7 +13,7 @@ import sys
 sys.stdout.buffer.write(b'GET /edition HTTP/1.1\r\nHost: desk\r\nX-Chair: ann\r\n\r\n' * $count)" > requests
     rm -f desk.db
     spent=$( { TIMEFORMAT='%U %S'; time "$matcher" session ann < requests > replies; } 2>&1 | awk '{ print $1 + $2 }')
-    replies=$(grep -c '^HTTP/1.1 200 OK' replies)
+    replies=$(grep -ao 'HTTP/1.1 200 OK' replies | wc -l)
     awk -v n="$count" -v r="$replies" -v s="$spent" -v b="$before" 'BEGIN {
         printf "%d requests, %d replies of 200: %.3f s, %.2f microseconds for each", n, r, s, s * 1000000 / n
         if (b != "") printf ", %.2f times half as many", s / b
