@@ -13,7 +13,7 @@ pub(crate) struct Ran {
     pub written: Vec<u8>,
 }
 
-/// Runs the words over this source and this keeper. The write of this number fails; the first has the number 1.
+// Runs the words over this source and this keeper. The write of this number fails; the first has the number 1.
 fn run_over<S: Source>(
     alloc: Global,
     words: &[String],
